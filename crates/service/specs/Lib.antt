@@ -1,0 +1,6 @@
+pub mod Refusals
+pub mod Certification
+pub mod Entries
+pub mod Service
+pub mod Sound
+pub mod Desks

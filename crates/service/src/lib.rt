@@ -1,0 +1,10 @@
+// The parameter service: transactions over the items of one store, certified by stamps.
+mod calls;
+mod desks;
+mod refusals;
+mod tokens;
+mod tools;
+
+pub use calls::Answer;
+pub use calls::Call;
+pub use refusals::Refusal;
