@@ -11,7 +11,7 @@ use Rattle.std.specs.declared.result.Result.{Result}
 use Rattle.std.specs.declared.result.Result.the-variants.{Ok, Err}
 use Rattle.std.specs.Options.{isSome}
 use Rattle.store.specs.declared.Version.{Version}
-use Rattle.queue.specs.Tokens.{Tells, insert, remove, between, reached, count}
+use Rattle.queue.specs.Tokens.{Tells, place, remove, between, reached, count}
 use Rattle.service.specs.declared.refusals.Refusal.{Refusal}
 use Rattle.service.specs.declared.refusals.Refusal.the-variants.{UnknownTool, WrongState, UnknownItem, TooManyEntries, TickTooLarge, CounterSpent, NoEntry, HasToken, NotCertified, NoToken}
 use Rattle.service.specs.declared.calls.Call.{Call}
@@ -190,7 +190,7 @@ nextReads s x (Begin t) = s .reads
 nextReads s x (Read t i) = s .reads
 nextReads s x (Write t i v) = s .reads
 nextReads s x (Close t k) = s .reads
-nextReads s x (Certify t i) = cond (isSome (entry x i .seen)) (insert readTells 128 (record { tool = t; item = i; stamp = x .stamp }) (s .reads)) (s .reads)
+nextReads s x (Certify t i) = cond (isSome (entry x i .seen)) (place readTells (record { tool = t; item = i; stamp = x .stamp }) (s .reads)) (s .reads)
 nextReads s x (Commit t) = s .reads
 nextReads s x (Abort t) = s .reads
 nextReads s x (Settle t i) = cond (isSome (entry x i .seen)) (remove readTells i (x .stamp) (s .reads)) (s .reads)
@@ -200,7 +200,7 @@ nextWrites s x (Begin t) = s .writes
 nextWrites s x (Read t i) = s .writes
 nextWrites s x (Write t i v) = s .writes
 nextWrites s x (Close t k) = s .writes
-nextWrites s x (Certify t i) = cond (entry x i .written) (insert writeTells 128 (record { tool = t; item = i; stamp = x .stamp; value = entry x i .value }) (s .writes)) (s .writes)
+nextWrites s x (Certify t i) = cond (entry x i .written) (place writeTells (record { tool = t; item = i; stamp = x .stamp; value = entry x i .value }) (s .writes)) (s .writes)
 nextWrites s x (Commit t) = s .writes
 nextWrites s x (Abort t) = s .writes
 nextWrites s x (Settle t i) = cond (entry x i .written) (remove writeTells i (x .stamp) (s .writes)) (s .writes)
