@@ -1,6 +1,8 @@
 // The parameter service: transactions over the items of one store, certified by stamps.
 mod calls;
+mod certification;
 mod desks;
+mod numbers;
 mod refusals;
 mod tokens;
 mod tools;
