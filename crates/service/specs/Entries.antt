@@ -1,7 +1,7 @@
 -- The entries of a transaction, at most one an item.
 use mathlib.Core.Bool.{Bool, true, false, cond, not, _&&_, _||_}
 use mathlib.Core.List.{List, [], _∷_}
-use Prim.Native.Nat.{ℕ, max}
+use Prim.Native.Nat.{ℕ, _+_, max}
 use lib.Dec.{ltb, eqb}
 use Rattle.std.specs.declared.option.Option.{Option}
 use Rattle.std.specs.declared.option.Option.the-variants.{Some, None}
@@ -59,3 +59,8 @@ settledVersion e st v = record {
   twrite = cond (e .written && ltb (v .twrite) st) st (v .twrite);
   tread = cond (isSome (e .seen)) (max (v .tread) st) (v .tread);
 }
+
+-- the place of the item's entry, counted from n
+abbrev pub indexFrom : ℕ → ℕ → List Entry → Option ℕ
+indexFrom n i [] = None
+indexFrom n i (e ∷ es) = cond (eqb i (e .item)) (Some n) (indexFrom (n + 1) i es)

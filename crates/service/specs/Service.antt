@@ -236,3 +236,11 @@ largest (v ∷ vs) = max (max (v .twrite) (v .tread)) (largest vs)
 
 abbrev pub start : List Version → State
 start vs = record { versions = vs; seats = replicate 16 (fresh (largest vs / 16)); reads = []; writes = [] }
+
+-- what the call answers, and its tool's seat after it, once tool and phase are right and no certification is asked for
+abbrev pub reply : State → Seat → Call → Option Refusal → Result Answer Refusal × Seat
+reply s x c None = (Ok (answer s x c), nextSeat s x c)
+reply s x c (Some r) = (Err r, x)
+
+abbrev pub Replies : State → Seat → Call → Result Answer Refusal → Seat → Type 0
+Replies s x c a x′ = reply s x c (refusal (tests s x c)) ≡ (a, x′)

@@ -6,6 +6,7 @@ mod numbers;
 mod refusals;
 mod tokens;
 mod tools;
+mod transactions;
 
 pub use calls::Answer;
 pub use calls::Call;

@@ -1,5 +1,7 @@
 // One tool and its transaction.
+ghost use mathlib.Core.Path.{_≡_};
 ghost use Prim.Native.Nat.{_≤_};
+ghost use lib.ListN.{length};
 use store::Item;
 use store::Stamp;
 use store::Value;
@@ -8,6 +10,8 @@ use store::Value;
 pub const TOOLS: usize = 16;
 // The items that one transaction may use.
 pub const ENTRIES: usize = 8;
+// The largest counter that a stamp may have, and the first tick that is too large.
+pub const LAST_COUNTER: u64 = 1 << 40;
 
 // Where a tool stands; each phase allows only some calls.
 #[derive(Clone, Copy, PartialEq, Eq, Debug)]
@@ -47,5 +51,6 @@ pub struct Tool {
     pub stamp: Stamp,
     pub used: usize,
     pub entries: [Entry; ENTRIES],
+    ghost whole: { length entries ≡ 8 },
     ghost fits: { used ≤ 8 },
 }
