@@ -8,3 +8,4 @@ pub mod Sound
 mod Prefixes
 mod Places
 mod Replies
+mod Acts

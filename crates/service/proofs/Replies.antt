@@ -16,10 +16,11 @@ use Rattle.std.proofs.shelf.Tests.{lt-leb, le-leb, cases-lt}
 use Rattle.store.specs.declared.Version.{Version}
 use Rattle.service.specs.declared.calls.Call.the-variants.{Read, Write}
 use Rattle.service.specs.declared.calls.Answer.the-variants.{Done, Value}
-use Rattle.service.specs.declared.refusals.Refusal.the-variants.{TooManyEntries}
+use Rattle.service.specs.declared.refusals.Refusal.the-variants.{UnknownItem, TooManyEntries}
 use Rattle.service.specs.declared.tools.Entry.{Entry}
 use Rattle.service.specs.Entries.{find, enter, readFrom, writtenTo, blank}
-use Rattle.service.specs.Service.{State, Seat, Replies, entered, version}
+use Rattle.service.specs.Refusals.{refusal}
+use Rattle.service.specs.Service.{State, Seat, Replies, seat, entered, version, tests, outcome}
 
 -- the version that get answered
 pub got : (vs : List Version) (i : ℕ) (v : Version) → nth vs i ≡ Some v → (i < length vs) × (version vs i ≡ v)
@@ -28,6 +29,20 @@ got vs i v h = go (cases-lt i (length vs))
     go : (i < length vs) ⊎ (length vs ≤ i) → (i < length vs) × (version vs i ≡ v)
     go (inl l) = let e = nth-getD vs i (record { value = 0; twrite = 0; tread = 0 }) l in (l, cc)
     go (inr l) = let e = nth-past vs i l in let z : _≡_ {A = ℕ} 0 1 = cc in absurd (omega arith)
+
+-- get answered none
+unknown : (vs : List Version) (i : ℕ) → nth vs i ≡ None → leb (length vs) i ≡ true
+unknown vs i h = go (cases-lt i (length vs))
+  where
+    go : (i < length vs) ⊎ (length vs ≤ i) → leb (length vs) i ≡ true
+    go (inl l) = let e = nth-getD vs i (record { value = 0; twrite = 0; tread = 0 }) l in let z : _≡_ {A = ℕ} 0 1 = cc in absurd (omega arith)
+    go (inr l) = le-leb (length vs) i l
+
+pub unknown-read : (s : State) (t i : ℕ) → nth (s .versions) i ≡ None → outcome s (seat s t) (Read t i) (refusal (tests s (seat s t) (Read t i))) ≡ (Err UnknownItem, s)
+unknown-read s t i h = rw (unknown (s .versions) i h)
+
+pub unknown-write : (s : State) (t i v : ℕ) → nth (s .versions) i ≡ None → outcome s (seat s t) (Write t i v) (refusal (tests s (seat s t) (Write t i v))) ≡ (Err UnknownItem, s)
+unknown-write s t i v h = rw (unknown (s .versions) i h)
 
 module _ (s : State) (x : Seat) (t i : ℕ) (known : i < length (s .versions)) where
   item-known : leb (length (s .versions)) i ≡ false

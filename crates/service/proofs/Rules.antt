@@ -46,11 +46,11 @@ pub tool-below : (t : ℕ) → ltb 15 t ≡ false → t < 16
 tool-below t h = let a = ltb-false 15 t h in omega arith
 
 -- no refusal among them rejects
-abbrev Mild : Rules → Type 0
+abbrev pub Mild : Rules → Type 0
 Mild [] = Unit
 Mild (r ∷ rs) = (rejects (r .1) ≡ false) × Mild rs
 
-mild-refusal : (rs : Rules) → Mild rs → (r : Refusal) → refusal rs ≡ Some r → rejects r ≡ false
+pub mild-refusal : (rs : Rules) → Mild rs → (r : Refusal) → refusal rs ≡ Some r → rejects r ≡ false
 mild-refusal [] m r h = absurd (no-refusal r (sym h))
 mild-refusal (x ∷ xs) m r h = go (mild-refusal xs (m .1) r) (x .0) h
   where

@@ -4,6 +4,7 @@ mod certification;
 mod desks;
 mod numbers;
 mod refusals;
+mod serving;
 mod tokens;
 mod tools;
 mod transactions;
