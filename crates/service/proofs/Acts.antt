@@ -21,9 +21,10 @@ use Rattle.service.specs.declared.calls.Call.the-variants.{Begin, Read, Write,
 use Rattle.service.specs.declared.tools.Tool.{Tool}
 use Rattle.service.specs.declared.desks.Desk.{Desk}
 use Rattle.service.specs.declared.desks.Effect.{Effect}
+use Rattle.service.specs.declared.desks.Change.{Change}
 use Rattle.service.specs.Refusals.{refusal, rejects}
 use Rattle.service.specs.Service.{Seat, State, seat, fresh, toolOf, tests, answer, nextSeat, next, reseat, outcome, reply, Replies}
-use Rattle.service.specs.Desks.{seatOf, state, told, stored}
+use Rattle.service.specs.Desks.{seatOf, state, told, changed, changeOf, stored}
 use Rattle.service.proofs.Rules.{Mild, mild-refusal}
 
 -- the calls that touch neither versions nor queues
@@ -94,11 +95,11 @@ module _ (vs : List Version) (d : Desk) (t : ℕ) (z : Tool) (lt : t < length (d
       ∙ ap (λ (n : State). (a, n)) (ap (λ (n : ℕ). reseat (state vs d) n (seatOf y)) e ∙ sym (reseated y))
 
   -- the same with an effect that leaves the store
-  pub acts-plain : (c : Call) → toolOf c ≡ t → SeatOnly c → (a : Result Answer Refusal) (e : Result Effect Refusal) → told e ≡ a → stored e vs ≡ vs
+  pub acts-plain : (c : Call) → toolOf c ≡ t → SeatOnly c → (a : Result Answer Refusal) (e : Result Effect Refusal) → told e ≡ a → changeOf e ≡ None
       → (y : Tool) → Replies (state vs d) (seatOf (getD (d .tools) t z)) c a (seatOf y)
       → outcome (state vs d) (seat (state vs d) (toolOf c)) c (refusal (tests (state vs d) (seat (state vs d) (toolOf c)) c))
       ≡ (told e, state (stored e vs) (record { tools = set (d .tools) t y; reads = d .reads; writes = d .writes }))
   acts-plain c i o a e p q y h =
       acts-seat c i o a y h
       ∙ (ap (λ (b : Result Answer Refusal). (b, state vs (record { tools = set (d .tools) t y; reads = d .reads; writes = d .writes }))) (sym p)
-      ∙ ap (λ (us : List Version). (told e, state us (record { tools = set (d .tools) t y; reads = d .reads; writes = d .writes }))) (sym q))
+      ∙ ap (λ (h : Option Change). (told e, state (changed h vs) (record { tools = set (d .tools) t y; reads = d .reads; writes = d .writes }))) (sym q))

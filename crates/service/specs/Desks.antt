@@ -51,10 +51,17 @@ abbrev pub changed : Option Change → List Version → List Version
 changed None vs = vs
 changed (Some c) vs = set vs (c .item) (c .version)
 
+abbrev pub changeOf : Result Effect Refusal → Option Change
+changeOf (Ok e) = e .change
+changeOf (Err r) = None
+
 -- the versions after the change is put
 abbrev pub stored : Result Effect Refusal → List Version → List Version
-stored (Ok e) vs = changed (e .change) vs
-stored (Err r) vs = vs
+stored r vs = changed (changeOf r) vs
+
+-- a change is handed out only where a version changes
+abbrev pub Quiet : Call → Option Version → Result Effect Refusal → Type 0
+Quiet c f r = (vs : List Version) → Finds vs (itemOf c) f → stored r vs ≡ vs → changeOf r ≡ None
 
 -- what the desk does with a call, whatever the other versions are
 abbrev pub Serves : Desk → Call → Option Version → Result Effect Refusal → Desk → Type 0

@@ -6,7 +6,7 @@ ghost use Rattle.std.specs.declared.option.Option.the-variants.{None};
 ghost use Rattle.store.specs.declared.Version.{Version as Stored};
 ghost use Rattle.service.specs.declared.calls.Call.the-variants.{Begin, Read, Write, Close, Certify, Commit, Abort, Settle};
 ghost use Rattle.service.specs.Service.{start, largest};
-ghost use Rattle.service.specs.Desks.{state, told, stored, Acts};
+ghost use Rattle.service.specs.Desks.{state, told, changeOf, Acts, Quiet};
 use crate::calls::Answer;
 use crate::desks::Desk;
 use crate::desks::Effect;
@@ -25,7 +25,7 @@ use store::Version;
 // An answer that leaves the store as it is.
 fn plain(reply: Result<Answer, Refusal>) -> Result<Effect, Refusal>
     ensures told { λ r. ⌜ told r ≡ reply ⌝ }
-    ensures same { λ r. ⌜ ((vs : List Stored) → stored r vs ≡ vs) ⌝ }
+    ensures same { λ r. ⌜ changeOf r ≡ None ⌝ }
 {
     match reply {
         Ok(answer) => Ok(Effect { answer, change: None }),
@@ -47,7 +47,8 @@ impl Desk {
 
     fn begin(&mut self, t: usize) -> Result<Effect, Refusal>
         requires { ⌜ t < 16 ⌝ }
-        ensures { λ r. ⌜ Acts (now (self .entry)) (Begin t) None r (now (self .exit)) ⌝ }
+        ensures acts { λ r. ⌜ Acts (now (self .entry)) (Begin t) None r (now (self .exit)) ⌝ }
+        ensures quiet { λ r. ⌜ Quiet (Begin t) None r ⌝ }
     {
         self.tools[t].begin();
         plain(Ok(Answer::Done))
@@ -55,11 +56,48 @@ impl Desk {
 
     fn read(&mut self, t: usize, item: Item, found: Option<Version>) -> Result<Effect, Refusal>
         requires { ⌜ t < 16 ⌝ }
-        ensures { λ r. ⌜ Acts (now (self .entry)) (Read t item) found r (now (self .exit)) ⌝ }
+        ensures acts { λ r. ⌜ Acts (now (self .entry)) (Read t item) found r (now (self .exit)) ⌝ }
+        ensures quiet { λ r. ⌜ Quiet (Read t item) found r ⌝ }
     {
         match found {
             Some(version) => plain(self.tools[t].read(item, version)),
             None => Err(Refusal::UnknownItem),
         }
+    }
+
+    fn write(&mut self, t: usize, item: Item, value: Value, found: Option<Version>) -> Result<Effect, Refusal>
+        requires { ⌜ t < 16 ⌝ }
+        ensures acts { λ r. ⌜ Acts (now (self .entry)) (Write t item value) found r (now (self .exit)) ⌝ }
+        ensures quiet { λ r. ⌜ Quiet (Write t item value) found r ⌝ }
+    {
+        match found {
+            Some(_) => plain(self.tools[t].write(item, value)),
+            None => Err(Refusal::UnknownItem),
+        }
+    }
+
+    fn close(&mut self, tool: u8, tick: u64) -> Result<Effect, Refusal>
+        requires { ⌜ tool < 16 ⌝ }
+        ensures acts { λ r. ⌜ Acts (now (self .entry)) (Close tool tick) None r (now (self .exit)) ⌝ }
+        ensures quiet { λ r. ⌜ Quiet (Close tool tick) None r ⌝ }
+    {
+        plain(self.tools[tool as usize].close(tool, tick))
+    }
+
+    fn commit(&mut self, t: usize) -> Result<Effect, Refusal>
+        requires { ⌜ t < 16 ⌝ }
+        ensures acts { λ r. ⌜ Acts (now (self .entry)) (Commit t) None r (now (self .exit)) ⌝ }
+        ensures quiet { λ r. ⌜ Quiet (Commit t) None r ⌝ }
+    {
+        plain(self.tools[t].commit())
+    }
+
+    fn abort(&mut self, t: usize) -> Result<Effect, Refusal>
+        requires { ⌜ t < 16 ⌝ }
+        ensures acts { λ r. ⌜ Acts (now (self .entry)) (Abort t) None r (now (self .exit)) ⌝ }
+        ensures quiet { λ r. ⌜ Quiet (Abort t) None r ⌝ }
+    {
+        self.tools[t].abort();
+        plain(Ok(Answer::Done))
     }
 }

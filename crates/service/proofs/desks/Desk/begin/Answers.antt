@@ -9,7 +9,10 @@ use Rattle.service.proofs.Acts.{acts-plain}
 use Rattle.service.proofs.desks.Desk.begin.Needs as need
 
 pub returns : need.returns
-returns c vs f =
-    acts-plain vs (c .args .self .now) (c .args .t) (c .index-self-t .result) (omega arith) (Begin (c .args .t)) refl tt (Ok Done) (c .plain .result)
-    (c .plain .ensures .told) (c .plain .ensures .same vs) (c .begin .last .self)
-    (ap (λ (x : Seat). (Ok Done, x)) (sym (c .begin .ensures (state vs (c .args .self .now)) (c .args .t))))
+returns c = record {
+  acts = λ vs f.
+      acts-plain vs (c .args .self .now) (c .args .t) (c .index-self-t .result) (omega arith) (Begin (c .args .t)) refl tt (Ok Done) (c .plain .result)
+      (c .plain .ensures .told) (c .plain .ensures .same) (c .begin .last .self)
+      (ap (λ (x : Seat). (Ok Done, x)) (sym (c .begin .ensures (state vs (c .args .self .now)) (c .args .t))));
+  quiet = λ _ _ _. c .plain .ensures .same;
+}
