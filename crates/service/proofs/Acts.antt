@@ -4,17 +4,16 @@ use mathlib.Core.Bool.{Bool, true, false, cond}
 use mathlib.Core.List.{List, map}
 use Prim.Native.Nat.{ℕ, _<_, _≤_}
 use native.Mathlib.Omega.{arith}
-use lib.Dec.{leb}
 use lib.ListN.{length, getD, set}
 use Rattle.std.proofs.shelf.Lists.{getD-map, map-set, set-getD}
-use Rattle.std.proofs.shelf.Tests.{le-leb}
+use Rattle.std.proofs.shelf.Tests.{le-ltb}
 use Rattle.std.specs.declared.option.Option.{Option}
 use Rattle.std.specs.declared.option.Option.the-variants.{Some, None}
 use Rattle.std.specs.declared.result.Result.{Result}
 use Rattle.std.specs.declared.result.Result.the-variants.{Ok, Err}
 use Rattle.store.specs.declared.Version.{Version}
 use Rattle.service.specs.declared.refusals.Refusal.{Refusal}
-use Rattle.service.specs.declared.refusals.Refusal.the-variants.{UnknownItem}
+use Rattle.service.specs.declared.refusals.Refusal.the-variants.{WrongState}
 use Rattle.service.specs.declared.calls.Answer.{Answer}
 use Rattle.service.specs.declared.calls.Call.{Call}
 use Rattle.service.specs.declared.calls.Call.the-variants.{Begin, Read, Write, Close, Certify, Commit, Abort, Settle}
@@ -23,8 +22,8 @@ use Rattle.service.specs.declared.desks.Desk.{Desk}
 use Rattle.service.specs.declared.desks.Effect.{Effect}
 use Rattle.service.specs.declared.desks.Change.{Change}
 use Rattle.service.specs.Refusals.{refusal, rejects}
-use Rattle.service.specs.Service.{Seat, State, seat, fresh, toolOf, tests, answer, nextSeat, next, reseat, outcome, reply, Replies}
-use Rattle.service.specs.Desks.{seatOf, state, told, changed, changeOf, stored}
+use Rattle.service.specs.Service.{Seat, State, seat, fresh, toolOf, allowed, tests, step, answer, nextSeat, next, reseat, outcome, reply, Replies}
+use Rattle.service.specs.Desks.{seatOf, state, told, changed, changeOf, stored, Acts, Serves, Quiet}
 use Rattle.service.proofs.Rules.{Mild, mild-refusal}
 
 -- the calls that touch neither versions nor queues
@@ -103,3 +102,26 @@ module _ (vs : List Version) (d : Desk) (t : ℕ) (z : Tool) (lt : t < length (d
       acts-seat c i o a y h
       ∙ (ap (λ (b : Result Answer Refusal). (b, state vs (record { tools = set (d .tools) t y; reads = d .reads; writes = d .writes }))) (sym p)
       ∙ ap (λ (h : Option Change). (told e, state (changed h vs) (record { tools = set (d .tools) t y; reads = d .reads; writes = d .writes }))) (sym q))
+
+-- tool and phase are right, or the phase is not
+pub passed : (s : State) (c : Call) → toolOf c < 16 → allowed c (seat s (toolOf c) .phase) ≡ true
+    → step s c ≡ outcome s (seat s (toolOf c)) c (refusal (tests s (seat s (toolOf c)) c))
+passed s c l a = rw (le-ltb 15 (toolOf c) (omega arith), a)
+
+pub wrong : (s : State) (c : Call) → toolOf c < 16 → allowed c (seat s (toolOf c) .phase) ≡ false → step s c ≡ (Err WrongState, s)
+wrong s c l a = rw (le-ltb 15 (toolOf c) (omega arith), a)
+
+module _ (d : Desk) (c : Call) (z : Tool) (few : toolOf c < 16) (lt : toolOf c < length (d .tools)) where
+  phase-at : (vs : List Version) (b : Bool) → allowed c (getD (d .tools) (toolOf c) z .phase) ≡ b → allowed c (seat (state vs d) (toolOf c) .phase) ≡ b
+  phase-at vs b h = ap (λ (x : Seat). allowed c (x .phase)) (seat-at vs d (toolOf c) z lt) ∙ h
+
+  pub serves-right : (f : Option Version) (r : Result Effect Refusal) (d′ : Desk) → allowed c (getD (d .tools) (toolOf c) z .phase) ≡ true → Acts d c f r d′ → Serves d c f r d′
+  serves-right f r d′ a h vs g = passed (state vs d) c few (phase-at vs true a) ∙ h vs g
+
+  pub serves-wrong : (f : Option Version) → allowed c (getD (d .tools) (toolOf c) z .phase) ≡ false → Serves d c f (Err WrongState) d
+  serves-wrong f a vs g = wrong (state vs d) c few (phase-at vs false a)
+
+-- an arm of the dispatch: the arriving call is c, and the tool's phase allows it
+pub arm : (d : Desk) (call c : Call) (f : Option Version) (r : Result Effect Refusal) (d′ : Desk) (z : Tool) → call ≡ c → toolOf c < 16 → toolOf c < length (d .tools)
+    → allowed c (getD (d .tools) (toolOf c) z .phase) ≡ true → Acts d c f r d′ → Quiet c f r → Serves d call f r d′ × Quiet call f r
+arm d call c f r d′ z e l lt a h q = subst (λ (x : Call). Serves d x f r d′ × Quiet x f r) (sym e) (serves-right d c z l lt f r d′ a h, q)

@@ -31,12 +31,15 @@ got vs i v h = go (cases-lt i (length vs))
     go (inr l) = let e = nth-past vs i l in let z : _≡_ {A = ℕ} 0 1 = cc in absurd (omega arith)
 
 -- get answered none
-unknown : (vs : List Version) (i : ℕ) → nth vs i ≡ None → leb (length vs) i ≡ true
-unknown vs i h = go (cases-lt i (length vs))
+pub past-end : (vs : List Version) (i : ℕ) → nth vs i ≡ None → length vs ≤ i
+past-end vs i h = go (cases-lt i (length vs))
   where
-    go : (i < length vs) ⊎ (length vs ≤ i) → leb (length vs) i ≡ true
+    go : (i < length vs) ⊎ (length vs ≤ i) → length vs ≤ i
     go (inl l) = let e = nth-getD vs i (record { value = 0; twrite = 0; tread = 0 }) l in let z : _≡_ {A = ℕ} 0 1 = cc in absurd (omega arith)
-    go (inr l) = le-leb (length vs) i l
+    go (inr l) = l
+
+unknown : (vs : List Version) (i : ℕ) → nth vs i ≡ None → leb (length vs) i ≡ true
+unknown vs i h = le-leb (length vs) i (past-end vs i h)
 
 pub unknown-read : (s : State) (t i : ℕ) → nth (s .versions) i ≡ None → outcome s (seat s t) (Read t i) (refusal (tests s (seat s t) (Read t i))) ≡ (Err UnknownItem, s)
 unknown-read s t i h = rw (unknown (s .versions) i h)

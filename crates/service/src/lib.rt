@@ -5,6 +5,7 @@ mod desks;
 mod numbers;
 mod refusals;
 mod serving;
+mod settlements;
 mod tokens;
 mod tools;
 mod transactions;

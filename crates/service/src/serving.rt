@@ -6,8 +6,9 @@ ghost use Rattle.std.specs.declared.option.Option.the-variants.{None};
 ghost use Rattle.store.specs.declared.Version.{Version as Stored};
 ghost use Rattle.service.specs.declared.calls.Call.the-variants.{Begin, Read, Write, Close, Certify, Commit, Abort, Settle};
 ghost use Rattle.service.specs.Service.{start, largest};
-ghost use Rattle.service.specs.Desks.{state, told, changeOf, Acts, Quiet};
+ghost use Rattle.service.specs.Desks.{state, told, changeOf, Acts, Serves, Quiet};
 use crate::calls::Answer;
+use crate::calls::Call;
 use crate::desks::Desk;
 use crate::desks::Effect;
 use crate::refusals::Refusal;
@@ -15,6 +16,7 @@ use crate::tokens::ReadTells;
 use crate::tokens::ReadToken;
 use crate::tokens::WriteTells;
 use crate::tokens::WriteToken;
+use crate::tools::Phase;
 use crate::tools::TOOLS;
 use crate::tools::Tool;
 use queue::Queue;
@@ -99,5 +101,26 @@ impl Desk {
     {
         self.tools[t].abort();
         plain(Ok(Answer::Done))
+    }
+
+    // The tool's phase and the arriving call decide together.
+    pub(crate) fn serve(&mut self, call: Call, found: Option<Version>) -> Result<Effect, Refusal>
+        ensures serves { λ r. ⌜ Serves (now (self .entry)) call found r (now (self .exit)) ⌝ }
+        ensures quiet { λ r. ⌜ Quiet call found r ⌝ }
+    {
+        let tool = call.tool();
+        let t = tool as usize;
+        if t >= TOOLS {
+            return Err(Refusal::UnknownTool);
+        }
+        match (self.tools[t].phase, call) {
+            (Phase::Idle, Call::Begin { .. }) => self.begin(t),
+            (Phase::Open, Call::Read { item, .. }) => self.read(t, item, found),
+            (Phase::Open, Call::Write { item, value, .. }) => self.write(t, item, value, found),
+            (Phase::Open, Call::Close { tick, .. }) => self.close(tool, tick),
+            (Phase::Closed, Call::Commit { .. }) => self.commit(t),
+            (Phase::Open | Phase::Closed | Phase::Failed, Call::Abort { .. }) => self.abort(t),
+            _ => Err(Refusal::WrongState),
+        }
     }
 }

@@ -1,0 +1,45 @@
+// What settling an entry of a committed transaction does to the item's version.
+ghost use mathlib.Core.Path.{_≡_};
+ghost use mathlib.Core.List.{List};
+ghost use lib.ListN.{set};
+ghost use Rattle.std.specs.declared.option.Option.the-variants.{None};
+ghost use Rattle.std.specs.shelf.Maps.{nth};
+ghost use Rattle.store.specs.declared.Version.{Version as Stored};
+ghost use Rattle.service.specs.Entries.{settledVersion};
+ghost use Rattle.service.specs.Service.{version};
+ghost use Rattle.service.specs.Desks.{changed};
+use crate::desks::Change;
+use crate::tools::Entry;
+use store::Stamp;
+use store::Version;
+use store::VersionPartialEq;
+
+fn settled(entry: Entry, stamp: Stamp, before: Version) -> Version
+    ensures { λ r. ⌜ r ≡ settledVersion entry stamp before ⌝ }
+{
+    let mut after = before;
+    if entry.seen.is_some() {
+        after.tread = before.tread.max(stamp);
+    }
+    // A write that comes after a later one is dropped.
+    if entry.written && before.twrite < stamp {
+        after.value = entry.value;
+        after.twrite = stamp;
+    }
+    after
+}
+
+// The version to put, if it is another than the one found.
+pub(crate) fn settlement(entry: Entry, stamp: Stamp, found: Option<Version>) -> Option<Change>
+    ensures value { λ r. ⌜ ((vs : List Stored) → nth vs (entry .item) ≡ found → changed r vs ≡ set vs (entry .item) (settledVersion entry stamp (version vs (entry .item)))) ⌝ }
+    ensures quiet { λ r. ⌜ ((vs : List Stored) → nth vs (entry .item) ≡ found → changed r vs ≡ vs → r ≡ None) ⌝ }
+{
+    let Some(before) = found else {
+        return None;
+    };
+    let after = settled(entry, stamp, before);
+    if after == before {
+        return None;
+    }
+    Some(Change { item: entry.item, version: after })
+}
