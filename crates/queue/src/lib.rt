@@ -7,6 +7,7 @@ use store::Item;
 use store::Stamp;
 
 mod queues;
+mod slices;
 
 pub use queues::PLACES;
 pub use queues::Queue;
