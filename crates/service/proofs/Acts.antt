@@ -111,17 +111,18 @@ passed s c l a = rw (le-ltb 15 (toolOf c) (omega arith), a)
 pub wrong : (s : State) (c : Call) → toolOf c < 16 → allowed c (seat s (toolOf c) .phase) ≡ false → step s c ≡ (Err WrongState, s)
 wrong s c l a = rw (le-ltb 15 (toolOf c) (omega arith), a)
 
-module _ (d : Desk) (c : Call) (z : Tool) (few : toolOf c < 16) (lt : toolOf c < length (d .tools)) where
-  phase-at : (vs : List Version) (b : Bool) → allowed c (getD (d .tools) (toolOf c) z .phase) ≡ b → allowed c (seat (state vs d) (toolOf c) .phase) ≡ b
-  phase-at vs b h = ap (λ (x : Seat). allowed c (x .phase)) (seat-at vs d (toolOf c) z lt) ∙ h
+module _ (d : Desk) (c : Call) (t : ℕ) (z : Tool) (e : t ≡ toolOf c) (few : t < 16) (lt : t < length (d .tools)) where
+  phase-at : (vs : List Version) (b : Bool) → allowed c (getD (d .tools) t z .phase) ≡ b → allowed c (seat (state vs d) (toolOf c) .phase) ≡ b
+  phase-at vs b h =
+      ap (λ (x : Seat). allowed c (x .phase)) (ap (λ (n : ℕ). seat (state vs d) n) (sym e) ∙ seat-at vs d t z lt) ∙ h
 
-  pub serves-right : (f : Option Version) (r : Result Effect Refusal) (d′ : Desk) → allowed c (getD (d .tools) (toolOf c) z .phase) ≡ true → Acts d c f r d′ → Serves d c f r d′
-  serves-right f r d′ a h vs g = passed (state vs d) c few (phase-at vs true a) ∙ h vs g
+  pub serves-right : (f : Option Version) (r : Result Effect Refusal) (d′ : Desk) → allowed c (getD (d .tools) t z .phase) ≡ true → Acts d c f r d′ → Serves d c f r d′
+  serves-right f r d′ a h vs g = passed (state vs d) c (omega arith) (phase-at vs true a) ∙ h vs g
 
-  pub serves-wrong : (f : Option Version) → allowed c (getD (d .tools) (toolOf c) z .phase) ≡ false → Serves d c f (Err WrongState) d
-  serves-wrong f a vs g = wrong (state vs d) c few (phase-at vs false a)
+  pub serves-wrong : (f : Option Version) → allowed c (getD (d .tools) t z .phase) ≡ false → Serves d c f (Err WrongState) d
+  serves-wrong f a vs g = wrong (state vs d) c (omega arith) (phase-at vs false a)
 
 -- an arm of the dispatch: the arriving call is c, and the tool's phase allows it
 pub arm : (d : Desk) (call c : Call) (f : Option Version) (r : Result Effect Refusal) (d′ : Desk) (z : Tool) → call ≡ c → toolOf c < 16 → toolOf c < length (d .tools)
     → allowed c (getD (d .tools) (toolOf c) z .phase) ≡ true → Acts d c f r d′ → Quiet c f r → Serves d call f r d′ × Quiet call f r
-arm d call c f r d′ z e l lt a h q = subst (λ (x : Call). Serves d x f r d′ × Quiet x f r) (sym e) (serves-right d c z l lt f r d′ a h, q)
+arm d call c f r d′ z e l lt a h q = subst (λ (x : Call). Serves d x f r d′ × Quiet x f r) (sym e) (serves-right d c (toolOf c) z refl l lt f r d′ a h, q)

@@ -9,3 +9,7 @@ mod Prefixes
 mod Places
 mod Replies
 mod Acts
+mod Standings
+mod Claims
+mod Lawful
+mod Items

@@ -1,6 +1,6 @@
 -- What the service's memory means: the entries and the tokens in use.
 use mathlib.Core.Path.{_≡_}
-use mathlib.Core.List.{List, map}
+use mathlib.Core.List.{List, [], map}
 use Prim.Native.Nat.{ℕ}
 use lib.ListN.{take, set}
 use Rattle.std.specs.declared.option.Option.{Option}
@@ -20,6 +20,7 @@ use Rattle.service.specs.declared.calls.Call.{Call}
 use Rattle.service.specs.declared.calls.Call.the-variants.{Begin, Read, Write, Close, Certify, Commit, Abort, Settle}
 use Rattle.service.specs.Refusals.{refusal}
 use Rattle.service.specs.Service.{Seat, State, seat, toolOf, tests, outcome, step}
+use Rattle.service.specs.Sound.{Sound}
 
 abbrev pub seatOf : Tool → Seat
 seatOf x = record { phase = x .phase; last = x .last; stamp = x .stamp; entries = take (x .used) (x .entries) }
@@ -71,3 +72,7 @@ Serves d c f r d′ = (vs : List Version) → Finds vs (itemOf c) f → step (st
 abbrev pub Acts : Desk → Call → Option Version → Result Effect Refusal → Desk → Type 0
 Acts d c f r d′ = (vs : List Version) → Finds vs (itemOf c) f
     → outcome (state vs d) (seat (state vs d) (toolOf c)) c (refusal (tests (state vs d) (seat (state vs d) (toolOf c)) c)) ≡ (told r, state (stored r vs) d′)
+
+-- what every desk of a service shows
+abbrev pub Lawful : Desk → Type 0
+Lawful d = ∥ Sound (state [] d) ∥₁

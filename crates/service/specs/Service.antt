@@ -25,7 +25,8 @@ use Rattle.service.specs.declared.tools.Stand.the-variants.{Bare, Held, Settle
 use Rattle.service.specs.declared.tokens.ReadToken.{ReadToken}
 use Rattle.service.specs.declared.tokens.WriteToken.{WriteToken}
 use Rattle.service.specs.Refusals.{Rules, refusal, rejects}
-use Rattle.service.specs.Certification.{certification}
+use Rattle.service.specs.declared.certification.Claim.{Claim}
+use Rattle.service.specs.Certification.{Found, certification}
 use Rattle.service.specs.Entries.{isHeld, find, enter, orBlank, readFrom, writtenTo, stood, anyHeld, allHeld, settledVersion}
 
 -- a tool: its phase, its last counter, the stamp of its closed transaction, its entries
@@ -104,16 +105,20 @@ counter x k = 1 + max (x .last) k
 abbrev pub touches : State → Seat → ℕ → Rules
 touches s x i = (leb (length (s .versions)) i, UnknownItem) ∷ (absent x i && leb 8 (length (x .entries)), TooManyEntries) ∷ []
 
--- the certification of an entry, as things stand
+-- an item as a claim with that stamp meets it
+abbrev pub meets : State → ℕ → ℕ → Found
+meets s i st = record {
+  twrite = version (s .versions) i .twrite;
+  tread = version (s .versions) i .tread;
+  crossed = between writeTells i (version (s .versions) i .twrite) st (s .writes);
+  reached = reached readTells i st (s .reads);
+}
+
+abbrev pub claim : Entry → ℕ → Claim
+claim e st = record { seen = e .seen; written = e .written; stamp = st }
+
 abbrev pub certifies : State → Seat → ℕ → Rules
-certifies s x i = certification
-    (record { seen = entry x i .seen; written = entry x i .written; stamp = x .stamp })
-    (record {
-      twrite = version (s .versions) i .twrite;
-      tread = version (s .versions) i .tread;
-      crossed = between writeTells i (version (s .versions) i .twrite) (x .stamp) (s .writes);
-      reached = reached readTells i (x .stamp) (s .reads);
-    })
+certifies s x i = certification (claim (entry x i) (x .stamp)) (meets s i (x .stamp))
 
 -- the tests after those of the tool and its phase
 abbrev pub tests : State → Seat → Call → Rules
@@ -185,25 +190,38 @@ nextVersions s x (Commit t) = s .versions
 nextVersions s x (Abort t) = s .versions
 nextVersions s x (Settle t i) = cond (is (x .phase) Committed) (set (s .versions) i (settledVersion (entry x i) (x .stamp) (version (s .versions) i))) (s .versions)
 
+-- the queues with the tokens of item i's entry under a stamp, and without them
+abbrev pub withRead : ℕ → ℕ → ℕ → Entry → List ReadToken → List ReadToken
+withRead t i st e q = cond (isSome (e .seen)) (place readTells (record { tool = t; item = i; stamp = st }) q) q
+
+abbrev pub withWrite : ℕ → ℕ → ℕ → Entry → List WriteToken → List WriteToken
+withWrite t i st e q = cond (e .written) (place writeTells (record { tool = t; item = i; stamp = st; value = e .value }) q) q
+
+abbrev pub withoutRead : ℕ → ℕ → Entry → List ReadToken → List ReadToken
+withoutRead i st e q = cond (isSome (e .seen)) (remove readTells i st q) q
+
+abbrev pub withoutWrite : ℕ → ℕ → Entry → List WriteToken → List WriteToken
+withoutWrite i st e q = cond (e .written) (remove writeTells i st q) q
+
 abbrev pub nextReads : State → Seat → Call → List ReadToken
 nextReads s x (Begin t) = s .reads
 nextReads s x (Read t i) = s .reads
 nextReads s x (Write t i v) = s .reads
 nextReads s x (Close t k) = s .reads
-nextReads s x (Certify t i) = cond (isSome (entry x i .seen)) (place readTells (record { tool = t; item = i; stamp = x .stamp }) (s .reads)) (s .reads)
+nextReads s x (Certify t i) = withRead t i (x .stamp) (entry x i) (s .reads)
 nextReads s x (Commit t) = s .reads
 nextReads s x (Abort t) = s .reads
-nextReads s x (Settle t i) = cond (isSome (entry x i .seen)) (remove readTells i (x .stamp) (s .reads)) (s .reads)
+nextReads s x (Settle t i) = withoutRead i (x .stamp) (entry x i) (s .reads)
 
 abbrev pub nextWrites : State → Seat → Call → List WriteToken
 nextWrites s x (Begin t) = s .writes
 nextWrites s x (Read t i) = s .writes
 nextWrites s x (Write t i v) = s .writes
 nextWrites s x (Close t k) = s .writes
-nextWrites s x (Certify t i) = cond (entry x i .written) (place writeTells (record { tool = t; item = i; stamp = x .stamp; value = entry x i .value }) (s .writes)) (s .writes)
+nextWrites s x (Certify t i) = withWrite t i (x .stamp) (entry x i) (s .writes)
 nextWrites s x (Commit t) = s .writes
 nextWrites s x (Abort t) = s .writes
-nextWrites s x (Settle t i) = cond (entry x i .written) (remove writeTells i (x .stamp) (s .writes)) (s .writes)
+nextWrites s x (Settle t i) = withoutWrite i (x .stamp) (entry x i) (s .writes)
 
 abbrev pub next : State → Seat → Call → State
 next s x c = record {

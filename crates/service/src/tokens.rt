@@ -1,7 +1,10 @@
 // The two kinds of token.
 ghost use Rattle.service.specs.declared.tokens.ReadToken.{ReadToken};
 ghost use Rattle.service.specs.declared.tokens.WriteToken.{WriteToken};
+use queue::PLACES;
+use queue::Queued;
 use queue::Token;
+use queue::slices;
 use store::Item;
 use store::Stamp;
 use store::Value;
@@ -44,5 +47,25 @@ pub impl Token for WriteToken as WriteTells {
 
     fn stamp(&self) -> Stamp {
         self.stamp
+    }
+}
+
+pub impl Queued for ReadToken as ReadQueued {
+    fn insert_into(places: &mut [ReadToken; PLACES], used: usize, token: ReadToken) -> bool {
+        slices::insert(&mut places[..], used, token)
+    }
+
+    fn remove_from(places: &mut [ReadToken; PLACES], used: usize, item: Item, stamp: Stamp) -> bool {
+        slices::remove(&mut places[..], used, item, stamp)
+    }
+}
+
+pub impl Queued for WriteToken as WriteQueued {
+    fn insert_into(places: &mut [WriteToken; PLACES], used: usize, token: WriteToken) -> bool {
+        slices::insert(&mut places[..], used, token)
+    }
+
+    fn remove_from(places: &mut [WriteToken; PLACES], used: usize, item: Item, stamp: Stamp) -> bool {
+        slices::remove(&mut places[..], used, item, stamp)
     }
 }
