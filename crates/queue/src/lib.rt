@@ -2,9 +2,10 @@
 ghost use mathlib.Core.Path.{_≡_};
 ghost use mathlib.Core.Bool.{cond};
 ghost use mathlib.Core.List.{[]};
+ghost use Prim.Native.Nat.{_+_, _-_, _≤_};
 ghost use lib.Dec.{ltb};
 ghost use lib.ListN.{length, take};
-ghost use Rattle.queue.specs.Tokens.{Tells, insert, has, remove, count, oldest, youngest, placed, taken};
+ghost use Rattle.queue.specs.Tokens.{Tells, insert, has, remove, count, oldest, youngest};
 ghost use Rattle.queue.specs.Queues.{tokens};
 use store::Item;
 use store::Stamp;
@@ -31,15 +32,14 @@ pub trait Token: Copy {
 pub trait Queued: Token {
     // `slices::insert`
     fn insert_into(places: &mut [Self; PLACES], used: usize, token: Self) -> bool
-        ensures whole { λ _. ⌜ length (now (places .entry)) ≡ 128 ⌝ }
         ensures fits { λ r. ⌜ r ≡ ltb used 128 ⌝ }
-        ensures after { λ r. ⌜ now (places .exit) ≡ cond r (placed tells used token (now (places .entry))) (now (places .entry)) ⌝ };
+        ensures room { λ r. ⌜ r ≡ ltb (length (take used (now (places .entry)))) 128 ⌝ }
+        ensures inserts { λ r. ⌜ take (cond r (used + 1) used) (now (places .exit)) ≡ insert tells 128 token (take used (now (places .entry))) ⌝ };
 
     // `slices::remove`
     fn remove_from(places: &mut [Self; PLACES], used: usize, item: Item, stamp: Stamp) -> bool
-        ensures whole { λ _. ⌜ length (now (places .entry)) ≡ 128 ⌝ }
         ensures found { λ r. ⌜ r ≡ has tells item stamp (take used (now (places .entry))) ⌝ }
-        ensures after { λ _. ⌜ now (places .exit) ≡ taken tells used item stamp (now (places .entry)) ⌝ };
+        ensures removes { λ r. ⌜ (used ≤ 128 → take (cond r (used - 1) used) (now (places .exit)) ≡ remove tells item stamp (take used (now (places .entry)))) ⌝ };
 }
 
 impl<T: Token> Queue<T> {
@@ -112,3 +112,6 @@ impl<T: Queued> Queue<T> {
         found
     }
 }
+
+#[cfg(test)]
+mod tests;
