@@ -13,3 +13,4 @@ mod Standings
 mod Claims
 mod Lawful
 mod Items
+mod Largest
