@@ -17,8 +17,8 @@ pub largest-more : (vs : List Version) (i n : ℕ) (v : Version) → nth vs i �
 largest-more vs i n v g h a b p q =
     let e = got vs i v g in
     let l : largest (drop i vs) ≡ max (max (v .twrite) (v .tread)) (largest (drop (i + 1) vs)) =
-        ap largest (drop-more vs i (record { value = 0; twrite = 0; tread = 0 }) (e .0))
-        ∙ ap (λ (w : Version). max (max (w .twrite) (w .tread)) (largest (drop (i + 1) vs))) (e .1)
+    ap largest (drop-more vs i (record { value = 0; twrite = 0; tread = 0 }) (e .0))
+    ∙ ap (λ (w : Version). max (max (w .twrite) (w .tread)) (largest (drop (i + 1) vs))) (e .1)
     in
     omega arith
 

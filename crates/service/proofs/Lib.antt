@@ -14,3 +14,4 @@ mod Claims
 mod Lawful
 mod Items
 mod Largest
+mod Answers

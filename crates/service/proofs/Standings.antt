@@ -37,11 +37,11 @@ module _ (s : State) (i st : ℕ) (reads : ascending readTells (s .reads) ≡ tr
   here w r p q =
       let of : Bool → Bool → Found = λ a b. record { twrite = version (s .versions) i .twrite; tread = version (s .versions) i .tread; crossed = a; reached = b } in
       let a = ap (λ (o : Option ℕ). isBelow o st) p
-          ∙ (below-stamp writeTells (oldest writeTells i (version (s .versions) i .twrite) (s .writes)) st
-          ∙ sym (oldest-tells writeTells i (version (s .versions) i .twrite) st (s .writes) writes))
+      ∙ (below-stamp writeTells (oldest writeTells i (version (s .versions) i .twrite) (s .writes)) st
+      ∙ sym (oldest-tells writeTells i (version (s .versions) i .twrite) st (s .writes) writes))
       in
       let b = ap (λ (o : Option ℕ). isFrom o st) q
-          ∙ (from-stamp readTells (youngest readTells i (s .reads)) st ∙ sym (youngest-tells readTells i st (s .reads) reads))
+      ∙ (from-stamp readTells (youngest readTells i (s .reads)) st ∙ sym (youngest-tells readTells i st (s .reads) reads))
       in
       ap (λ (x : Bool). of x (isFrom r st)) a ∙ ap (of _) b
 

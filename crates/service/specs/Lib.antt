@@ -4,3 +4,4 @@ pub mod Entries
 pub mod Service
 pub mod Sound
 pub mod Desks
+pub mod Services

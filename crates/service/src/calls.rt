@@ -40,8 +40,12 @@ impl Call {
         ensures { λ r. ⌜ r ≡ itemOf self ⌝ }
     {
         match self {
-            Call::Read { item, .. } | Call::Write { item, .. } | Call::Certify { item, .. } | Call::Settle { item, .. } => Some(item),
-            Call::Begin { .. } | Call::Close { .. } | Call::Commit { .. } | Call::Abort { .. } => None,
+            Call::Read { item, .. }
+            | Call::Write { item, .. }
+            | Call::Certify { item, .. }
+            | Call::Settle { item, .. } => Some(item),
+            Call::Begin { .. } | Call::Close { .. } | Call::Commit { .. } | Call::Abort { .. } =>
+                None,
         }
     }
 }

@@ -2,6 +2,7 @@
 mod calls;
 mod certification;
 mod desks;
+mod looks;
 mod numbers;
 mod refusals;
 mod serve;
@@ -14,5 +15,6 @@ mod transactions;
 
 pub use calls::Answer;
 pub use calls::Call;
+pub use looks::Look;
 pub use refusals::Refusal;
 pub use services::Service;

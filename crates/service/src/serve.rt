@@ -1,22 +1,40 @@
 // The calls of a service.
 ghost use mathlib.Core.Path.{_≡_};
 ghost use Rattle.std.specs.declared.result.Result.{Result};
-ghost use Rattle.service.specs.Service.{Does, start};
-ghost use Rattle.service.specs.Desks.{state, itemOf, Finds};
+ghost use Rattle.service.specs.Service.{start};
+ghost use Rattle.service.specs.Desks.{itemOf, Finds};
+ghost use Rattle.service.specs.Services.{stateOf, Makes, done, valued, stamped, without, looked};
+ghost use Rattle.service.specs.declared.calls.Call.the-variants.{Begin, Read, Write, Close, Certify, Commit, Abort, Settle};
 use crate::calls::Answer;
 use crate::calls::Call;
 use crate::desks::Desk;
+use crate::looks::Look;
 use crate::refusals::Refusal;
 use crate::services::Service;
+use crate::tokens::ReadTells;
+use crate::tokens::WriteTells;
 use crate::tools::TOOLS;
+use store::Item;
+use store::Stamp;
 use store::Store;
+use store::Value;
 use store::Version;
+
+// The answer of a call that has no result.
+fn finished(answer: Result<Answer, Refusal>) -> Result<(), Refusal>
+    ensures { λ r. ⌜ r ≡ without answer ⌝ }
+{
+    match answer {
+        Ok(_) => Ok(()),
+        Err(refusal) => Err(refusal),
+    }
+}
 
 impl<S: Store> Service<S> {
     // All tools idle and no tokens; the next stamps lie above every stamp in the store.
     pub fn start(store: S) -> Service<S>
         ensures store { λ r. ⌜ r .store ≡ store ⌝ }
-        ensures starts { λ r. ⌜ state (versions (r .store)) (r .desk) ≡ start (versions store) ⌝ }
+        ensures starts { λ r. ⌜ stateOf versions r ≡ start (versions store) ⌝ }
     {
         let mut largest = 0;
         for item in 0..store.count() {
@@ -24,7 +42,10 @@ impl<S: Store> Service<S> {
                 largest = version.twrite.max(version.tread).max(largest);
             }
         }
-        Service { store, desk: Desk::new(largest / TOOLS as u64) }
+        Service {
+            store,
+            desk: Desk::new(largest / TOOLS as u64),
+        }
     }
 
     // The version of the item that the call names.
@@ -39,8 +60,7 @@ impl<S: Store> Service<S> {
 
     // Any call.
     pub fn call(&mut self, call: Call) -> Result<Answer, Refusal>
-        ensures does { λ r. ⌜ Does (state (versions (now (self .entry) .store)) (now (self .entry) .desk)) call r (state (versions (now (self .exit) .store)) (now (self .exit) .desk)) ⌝ }
-        ensures kept { λ _. ⌜ (versions (now (self .exit) .store) ≡ versions (now (self .entry) .store) → now (self .exit) .store ≡ now (self .entry) .store) ⌝ }
+        ensures { λ r. ⌜ Makes versions (now (self .entry)) call r (now (self .exit)) ⌝ }
     {
         let found = self.find(call);
         let effect = self.desk.serve(call, found)?;
@@ -48,5 +68,99 @@ impl<S: Store> Service<S> {
             self.store.put(change.item, change.version);
         }
         Ok(effect.answer)
+    }
+
+    // An idle tool opens a transaction without entries.
+    pub fn begin(&mut self, tool: u8) -> Result<(), Refusal>
+        ensures { λ r. ⌜ Makes versions (now (self .entry)) (Begin tool) (done r) (now (self .exit)) ⌝ }
+    {
+        finished(self.call(Call::Begin { tool }))
+    }
+
+    // The item's current value in the open transaction; a first use reads it from the store.
+    pub fn read(&mut self, tool: u8, item: Item) -> Result<Value, Refusal>
+        ensures { λ r. ⌜ Makes versions (now (self .entry)) (Read tool item) (valued r) (now (self .exit)) ⌝ }
+    {
+        match self.call(Call::Read { tool, item }) {
+            Ok(Answer::Value(value)) => Ok(value),
+            Ok(Answer::Done | Answer::Stamp(_)) => unreachable(),
+            Err(refusal) => Err(refusal),
+        }
+    }
+
+    // Sets the item's current value in the open transaction.
+    pub fn write(&mut self, tool: u8, item: Item, value: Value) -> Result<(), Refusal>
+        ensures { λ r. ⌜ Makes versions (now (self .entry)) (Write tool item value) (done r) (now (self .exit)) ⌝ }
+    {
+        finished(self.call(Call::Write { tool, item, value }))
+    }
+
+    // Ends the reads and writes and gives the transaction its stamp.
+    pub fn close(&mut self, tool: u8, tick: u64) -> Result<Stamp, Refusal>
+        ensures { λ r. ⌜ Makes versions (now (self .entry)) (Close tool tick) (stamped r) (now (self .exit)) ⌝ }
+    {
+        match self.call(Call::Close { tool, tick }) {
+            Ok(Answer::Stamp(stamp)) => Ok(stamp),
+            Ok(Answer::Done | Answer::Value(_)) => unreachable(),
+            Err(refusal) => Err(refusal),
+        }
+    }
+
+    // Certifies one entry of the closed transaction; a rejection leaves it only abort.
+    pub fn certify(&mut self, tool: u8, item: Item) -> Result<(), Refusal>
+        ensures { λ r. ⌜ Makes versions (now (self .entry)) (Certify tool item) (done r) (now (self .exit)) ⌝ }
+    {
+        finished(self.call(Call::Certify { tool, item }))
+    }
+
+    // Commits the closed transaction, all of whose entries hold a token.
+    pub fn commit(&mut self, tool: u8) -> Result<(), Refusal>
+        ensures { λ r. ⌜ Makes versions (now (self .entry)) (Commit tool) (done r) (now (self .exit)) ⌝ }
+    {
+        finished(self.call(Call::Commit { tool }))
+    }
+
+    // Gives an open, closed or failed transaction up; its tokens stand until they are settled.
+    pub fn abort(&mut self, tool: u8) -> Result<(), Refusal>
+        ensures { λ r. ⌜ Makes versions (now (self .entry)) (Abort tool) (done r) (now (self .exit)) ⌝ }
+    {
+        finished(self.call(Call::Abort { tool }))
+    }
+
+    // Takes an entry's tokens out, and puts what a committed one leaves.
+    pub fn settle(&mut self, tool: u8, item: Item) -> Result<(), Refusal>
+        ensures { λ r. ⌜ Makes versions (now (self .entry)) (Settle tool item) (done r) (now (self .exit)) ⌝ }
+    {
+        finished(self.call(Call::Settle { tool, item }))
+    }
+
+    // The item's version and how many tokens it has.
+    pub fn peek(&self, item: Item) -> Result<Look, Refusal>
+        ensures { λ r. ⌜ r ≡ looked (stateOf versions (now (self .entry))) item ⌝ }
+    {
+        match self.store.get(item) {
+            Some(version) => Ok(Look {
+                version,
+                reads: self.desk.reads.count(item),
+                writes: self.desk.writes.count(item),
+            }),
+            None => Err(Refusal::UnknownItem),
+        }
+    }
+
+    // The store, to be looked at.
+    pub fn store(&self) -> &S
+        ensures { λ r. ⌜ now r ≡ now (self .entry) .store ⌝ }
+    {
+        &self.store
+    }
+
+    // Ends the service and gives its store back.
+    pub fn into_store(self) -> S
+        ensures { λ r. ⌜ r ≡ self .store ⌝ }
+    {
+        let Service { store, desk } = self;
+        drop(desk);
+        store
     }
 }

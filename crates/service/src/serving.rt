@@ -47,7 +47,10 @@ fn plain(reply: Result<Answer, Refusal>) -> Result<Effect, Refusal>
     ensures same { λ r. ⌜ changeOf r ≡ None ⌝ }
 {
     match reply {
-        Ok(answer) => Ok(Effect { answer, change: None }),
+        Ok(answer) => Ok(Effect {
+            answer,
+            change: None,
+        }),
         Err(refusal) => Err(refusal),
     }
 }
@@ -75,8 +78,17 @@ impl Desk {
     {
         Desk {
             tools: [Tool::idle(last); TOOLS],
-            reads: Queue::new(ReadToken { tool: 0, item: 0, stamp: 0 }),
-            writes: Queue::new(WriteToken { tool: 0, item: 0, stamp: 0, value: 0 }),
+            reads: Queue::new(ReadToken {
+                tool: 0,
+                item: 0,
+                stamp: 0,
+            }),
+            writes: Queue::new(WriteToken {
+                tool: 0,
+                item: 0,
+                stamp: 0,
+                value: 0,
+            }),
         }
     }
 
@@ -100,7 +112,13 @@ impl Desk {
         }
     }
 
-    fn write(&mut self, t: usize, item: Item, value: Value, found: Option<Version>) -> Result<Effect, Refusal>
+    fn write(
+        &mut self,
+        t: usize,
+        item: Item,
+        value: Value,
+        found: Option<Version>,
+    ) -> Result<Effect, Refusal>
         requires { ⌜ t < 16 ⌝ }
         ensures acts { λ r. ⌜ Acts (now (self .entry)) (Write t item value) found r (now (self .exit)) ⌝ }
         ensures quiet { λ r. ⌜ Quiet (Write t item value) found r ⌝ }
@@ -137,7 +155,13 @@ impl Desk {
     }
 
     // The first rule of certification that the entry fails, its item being as it stands.
-    fn rejection(&self, item: Item, stamp: Stamp, entry: Entry, found: Option<Version>) -> Option<Refusal>
+    fn rejection(
+        &self,
+        item: Item,
+        stamp: Stamp,
+        entry: Entry,
+        found: Option<Version>,
+    ) -> Option<Refusal>
         requires reads { ⌜ ascending readTells (tokens (now self .reads)) ≡ true ⌝ }
         requires writes { ⌜ ascending writeTells (tokens (now self .writes)) ≡ true ⌝ }
         ensures { λ r. ⌜ ((vs : List Stored) → nth vs item ≡ found → r ≡ refusal (certification (claim entry stamp) (meets (state vs (now (self .entry))) item stamp))) ⌝ }
@@ -146,7 +170,19 @@ impl Desk {
         let Entry { seen, written, .. } = entry;
         let writer = stamp_of(self.writes.oldest_above(item, twrite));
         let reader = stamp_of(self.reads.youngest(item));
-        certification::rejection(Claim { seen, written, stamp }, Standing { twrite, tread, writer, reader })
+        certification::rejection(
+            Claim {
+                seen,
+                written,
+                stamp,
+            },
+            Standing {
+                twrite,
+                tread,
+                writer,
+                reader,
+            },
+        )
     }
 
     // The tokens of a certified entry; there is a place for each, since no other entry of the tools has it.
@@ -162,7 +198,12 @@ impl Desk {
             let _ = self.reads.insert(ReadToken { tool, item, stamp });
         }
         if entry.written {
-            let _ = self.writes.insert(WriteToken { tool, item, stamp, value });
+            let _ = self.writes.insert(WriteToken {
+                tool,
+                item,
+                stamp,
+                value,
+            });
         }
     }
 
@@ -225,7 +266,10 @@ impl Desk {
         let change = settlement(phase, item, stamp, entry, found);
         self.dequeue(item, stamp, entry);
         self.tools[t].settle(k);
-        Ok(Effect { answer: Answer::Done, change })
+        Ok(Effect {
+            answer: Answer::Done,
+            change,
+        })
     }
 
     // The tool's phase and the arriving call decide together.

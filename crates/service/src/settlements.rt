@@ -45,11 +45,20 @@ fn committed(item: Item, stamp: Stamp, entry: Entry, found: Option<Version>) -> 
     if after == before {
         return None;
     }
-    Some(Change { item, version: after })
+    Some(Change {
+        item,
+        version: after,
+    })
 }
 
 // What settling an entry puts: nothing unless its transaction is committed.
-pub(crate) fn settlement(phase: Phase, item: Item, stamp: Stamp, entry: Entry, found: Option<Version>) -> Option<Change>
+pub(crate) fn settlement(
+    phase: Phase,
+    item: Item,
+    stamp: Stamp,
+    entry: Entry,
+    found: Option<Version>,
+) -> Option<Change>
     ensures value { λ r. ⌜ ((vs : List Stored) → nth vs item ≡ found → changed r vs ≡ cond (is phase Committed) (set vs item (settledVersion entry stamp (version vs item))) vs) ⌝ }
     ensures quiet { λ r. ⌜ ((vs : List Stored) → nth vs item ≡ found → changed r vs ≡ vs → r ≡ None) ⌝ }
 {

@@ -55,7 +55,12 @@ pub impl Queued for ReadToken as ReadQueued {
         slices::insert(&mut places[..], used, token)
     }
 
-    fn remove_from(places: &mut [ReadToken; PLACES], used: usize, item: Item, stamp: Stamp) -> bool {
+    fn remove_from(
+        places: &mut [ReadToken; PLACES],
+        used: usize,
+        item: Item,
+        stamp: Stamp,
+    ) -> bool {
         slices::remove(&mut places[..], used, item, stamp)
     }
 }
@@ -65,7 +70,12 @@ pub impl Queued for WriteToken as WriteQueued {
         slices::insert(&mut places[..], used, token)
     }
 
-    fn remove_from(places: &mut [WriteToken; PLACES], used: usize, item: Item, stamp: Stamp) -> bool {
+    fn remove_from(
+        places: &mut [WriteToken; PLACES],
+        used: usize,
+        item: Item,
+        stamp: Stamp,
+    ) -> bool {
         slices::remove(&mut places[..], used, item, stamp)
     }
 }

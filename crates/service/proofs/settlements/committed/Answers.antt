@@ -40,8 +40,8 @@ returns c = record {
   quiet = λ vs f q.
       let g = got vs (c .args .item) (c .in-Some .before) (f ∙ c .in-Some .is) in
       let e : c .settled-after .result ≡ c .in-Some .before =
-          sym (getD-set-same vs (c .args .item) (c .settled-after .result) (record { value = 0; twrite = 0; tread = 0 }) (g .0))
-          ∙ (ap (λ (us : List Version). version us (c .args .item)) q ∙ g .1)
+      sym (getD-set-same vs (c .args .item) (c .settled-after .result) (record { value = 0; twrite = 0; tread = 0 }) (g .0))
+      ∙ (ap (λ (us : List Version). version us (c .args .item)) q ∙ g .1)
       in
       absurd (c .if-eq .ensures tt
       (λ d. false≢true (d .1 (ap (λ (v : Version). v .value) e)))

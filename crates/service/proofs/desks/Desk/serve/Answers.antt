@@ -56,7 +56,7 @@ returns-in-Idle-Begin c =
     let e : c .args .call ≡ Begin (c .tool-tool .result) = cc in
     let a : allowed (Begin (c .tool-tool .result)) (getD (c .args .self .now .tools) (c .tool-tool .result) (c .index-self-t .result) .phase) ≡ true = search needs in
     let both = arm (c .args .self .now) (c .args .call) (Begin (c .tool-tool .result)) (c .args .found) (c .begin .result) (c .begin .last .self) (c .index-self-t .result) e (omega arith) (omega arith) a
-        (λ vs g. c .begin .ensures .acts vs tt) (λ vs g. c .begin .ensures .quiet vs tt)
+    (λ vs g. c .begin .ensures .acts vs tt) (λ vs g. c .begin .ensures .quiet vs tt)
     in
     record { serves = both .0; quiet = both .1 }
 
@@ -66,7 +66,7 @@ returns-in-Open-Read c =
     let e : c .args .call ≡ Read (c .tool-tool .result) (c .in-Open-Read .item) = cc in
     let a : allowed (Read (c .tool-tool .result) (c .in-Open-Read .item)) (getD (c .args .self .now .tools) (c .tool-tool .result) (c .index-self-t .result) .phase) ≡ true = search needs in
     let both = arm (c .args .self .now) (c .args .call) (Read (c .tool-tool .result) (c .in-Open-Read .item)) (c .args .found) (c .read .result) (c .read .last .self) (c .index-self-t .result) e (omega arith) (omega arith) a
-        (λ vs g. c .read .ensures .acts vs g) (λ vs g. c .read .ensures .quiet vs g)
+    (λ vs g. c .read .ensures .acts vs g) (λ vs g. c .read .ensures .quiet vs g)
     in
     record { serves = both .0; quiet = both .1 }
 
@@ -76,7 +76,7 @@ returns-in-Open-Write c =
     let e : c .args .call ≡ Write (c .tool-tool .result) (c .in-Open-Write .item) (c .in-Open-Write .value) = cc in
     let a : allowed (Write (c .tool-tool .result) (c .in-Open-Write .item) (c .in-Open-Write .value)) (getD (c .args .self .now .tools) (c .tool-tool .result) (c .index-self-t .result) .phase) ≡ true = search needs in
     let both = arm (c .args .self .now) (c .args .call) (Write (c .tool-tool .result) (c .in-Open-Write .item) (c .in-Open-Write .value)) (c .args .found) (c .write .result) (c .write .last .self) (c .index-self-t .result) e (omega arith) (omega arith) a
-        (λ vs g. c .write .ensures .acts vs g) (λ vs g. c .write .ensures .quiet vs g)
+    (λ vs g. c .write .ensures .acts vs g) (λ vs g. c .write .ensures .quiet vs g)
     in
     record { serves = both .0; quiet = both .1 }
 
@@ -86,7 +86,7 @@ returns-in-Open-Close c =
     let e : c .args .call ≡ Close (c .tool-tool .result) (c .in-Open-Close .tick) = cc in
     let a : allowed (Close (c .tool-tool .result) (c .in-Open-Close .tick)) (getD (c .args .self .now .tools) (c .tool-tool .result) (c .index-self-t .result) .phase) ≡ true = search needs in
     let both = arm (c .args .self .now) (c .args .call) (Close (c .tool-tool .result) (c .in-Open-Close .tick)) (c .args .found) (c .close .result) (c .close .last .self) (c .index-self-t .result) e (omega arith) (omega arith) a
-        (λ vs g. c .close .ensures .acts vs tt) (λ vs g. c .close .ensures .quiet vs tt)
+    (λ vs g. c .close .ensures .acts vs tt) (λ vs g. c .close .ensures .quiet vs tt)
     in
     record { serves = both .0; quiet = both .1 }
 
@@ -96,7 +96,7 @@ returns-in-Open-Abort c =
     let e : c .args .call ≡ Abort (c .tool-tool .result) = cc in
     let a : allowed (Abort (c .tool-tool .result)) (getD (c .args .self .now .tools) (c .tool-tool .result) (c .index-self-t .result) .phase) ≡ true = search needs in
     let both = arm (c .args .self .now) (c .args .call) (Abort (c .tool-tool .result)) (c .args .found) (c .abort .result) (c .abort .last .self) (c .index-self-t .result) e (omega arith) (omega arith) a
-        (λ vs g. c .abort .ensures .acts vs tt) (λ vs g. c .abort .ensures .quiet vs tt)
+    (λ vs g. c .abort .ensures .acts vs tt) (λ vs g. c .abort .ensures .quiet vs tt)
     in
     record { serves = both .0; quiet = both .1 }
 
@@ -106,7 +106,7 @@ returns-in-Closed-Certify c =
     let e : c .args .call ≡ Certify (c .tool-tool .result) (c .in-Closed-Certify .item) = cc in
     let a : allowed (Certify (c .tool-tool .result) (c .in-Closed-Certify .item)) (getD (c .args .self .now .tools) (c .tool-tool .result) (c .index-self-t .result) .phase) ≡ true = search needs in
     let both = arm (c .args .self .now) (c .args .call) (Certify (c .tool-tool .result) (c .in-Closed-Certify .item)) (c .args .found) (c .certify .result) (c .certify .last .self) (c .index-self-t .result) e (omega arith) (omega arith) a
-        (λ vs g. c .certify .ensures .acts vs g) (λ vs g. c .certify .ensures .quiet vs g)
+    (λ vs g. c .certify .ensures .acts vs g) (λ vs g. c .certify .ensures .quiet vs g)
     in
     record { serves = both .0; quiet = both .1 }
 
@@ -116,7 +116,7 @@ returns-in-Closed-Commit c =
     let e : c .args .call ≡ Commit (c .tool-tool .result) = cc in
     let a : allowed (Commit (c .tool-tool .result)) (getD (c .args .self .now .tools) (c .tool-tool .result) (c .index-self-t .result) .phase) ≡ true = search needs in
     let both = arm (c .args .self .now) (c .args .call) (Commit (c .tool-tool .result)) (c .args .found) (c .commit .result) (c .commit .last .self) (c .index-self-t .result) e (omega arith) (omega arith) a
-        (λ vs g. c .commit .ensures .acts vs tt) (λ vs g. c .commit .ensures .quiet vs tt)
+    (λ vs g. c .commit .ensures .acts vs tt) (λ vs g. c .commit .ensures .quiet vs tt)
     in
     record { serves = both .0; quiet = both .1 }
 
@@ -126,7 +126,7 @@ returns-in-Closed-Abort c =
     let e : c .args .call ≡ Abort (c .tool-tool .result) = cc in
     let a : allowed (Abort (c .tool-tool .result)) (getD (c .args .self .now .tools) (c .tool-tool .result) (c .index-self-t .result) .phase) ≡ true = search needs in
     let both = arm (c .args .self .now) (c .args .call) (Abort (c .tool-tool .result)) (c .args .found) (c .abort-in-Closed-Abort .result) (c .abort-in-Closed-Abort .last .self) (c .index-self-t .result) e (omega arith) (omega arith) a
-        (λ vs g. c .abort-in-Closed-Abort .ensures .acts vs tt) (λ vs g. c .abort-in-Closed-Abort .ensures .quiet vs tt)
+    (λ vs g. c .abort-in-Closed-Abort .ensures .acts vs tt) (λ vs g. c .abort-in-Closed-Abort .ensures .quiet vs tt)
     in
     record { serves = both .0; quiet = both .1 }
 
@@ -136,7 +136,7 @@ returns-in-Failed-Abort c =
     let e : c .args .call ≡ Abort (c .tool-tool .result) = cc in
     let a : allowed (Abort (c .tool-tool .result)) (getD (c .args .self .now .tools) (c .tool-tool .result) (c .index-self-t .result) .phase) ≡ true = search needs in
     let both = arm (c .args .self .now) (c .args .call) (Abort (c .tool-tool .result)) (c .args .found) (c .abort-in-Failed-Abort .result) (c .abort-in-Failed-Abort .last .self) (c .index-self-t .result) e (omega arith) (omega arith) a
-        (λ vs g. c .abort-in-Failed-Abort .ensures .acts vs tt) (λ vs g. c .abort-in-Failed-Abort .ensures .quiet vs tt)
+    (λ vs g. c .abort-in-Failed-Abort .ensures .acts vs tt) (λ vs g. c .abort-in-Failed-Abort .ensures .quiet vs tt)
     in
     record { serves = both .0; quiet = both .1 }
 
@@ -146,7 +146,7 @@ returns-in-Committed-Settle c =
     let e : c .args .call ≡ Settle (c .tool-tool .result) (c .in-Committed-Settle .item) = cc in
     let a : allowed (Settle (c .tool-tool .result) (c .in-Committed-Settle .item)) (getD (c .args .self .now .tools) (c .tool-tool .result) (c .index-self-t .result) .phase) ≡ true = search needs in
     let both = arm (c .args .self .now) (c .args .call) (Settle (c .tool-tool .result) (c .in-Committed-Settle .item)) (c .args .found) (c .settle .result) (c .settle .last .self) (c .index-self-t .result) e (omega arith) (omega arith) a
-        (λ vs g. c .settle .ensures .acts vs g) (λ vs g. c .settle .ensures .quiet vs g)
+    (λ vs g. c .settle .ensures .acts vs g) (λ vs g. c .settle .ensures .quiet vs g)
     in
     record { serves = both .0; quiet = both .1 }
 
@@ -156,7 +156,6 @@ returns-in-Aborting-Settle c =
     let e : c .args .call ≡ Settle (c .tool-tool .result) (c .in-Aborting-Settle .item) = cc in
     let a : allowed (Settle (c .tool-tool .result) (c .in-Aborting-Settle .item)) (getD (c .args .self .now .tools) (c .tool-tool .result) (c .index-self-t .result) .phase) ≡ true = search needs in
     let both = arm (c .args .self .now) (c .args .call) (Settle (c .tool-tool .result) (c .in-Aborting-Settle .item)) (c .args .found) (c .settle-in-Aborting-Settle .result) (c .settle-in-Aborting-Settle .last .self) (c .index-self-t .result) e (omega arith) (omega arith) a
-        (λ vs g. c .settle-in-Aborting-Settle .ensures .acts vs g) (λ vs g. c .settle-in-Aborting-Settle .ensures .quiet vs g)
+    (λ vs g. c .settle-in-Aborting-Settle .ensures .acts vs g) (λ vs g. c .settle-in-Aborting-Settle .ensures .quiet vs g)
     in
     record { serves = both .0; quiet = both .1 }
-

@@ -13,8 +13,11 @@ pub loop-item-again : need.loop-item-again
 loop-item-again g c =
     let vs = g .S·Store .versions (c .args .store) in
     elim (c .match-get .came) [
-      in-Some w ↦ (c .count-item-end .ensures, largest-more vs (c .loop-item .item) (c .loop-item .largest) (w .in-Some .version)
-          (sym (c .get .ensures) ∙ w .in-Some .is) (c .loop-item .inv .1) (w .max .result) (c .match-get .largest) (w .max .ensures) (w .largest-is ∙ w .max-largest .ensures))
+      | in-Some w ↦ (
+        c .count-item-end .ensures,
+        largest-more vs (c .loop-item .item) (c .loop-item .largest) (w .in-Some .version)
+            (sym (c .get .ensures) ∙ w .in-Some .is) (c .loop-item .inv .1) (w .max .result) (c .match-get .largest) (w .max .ensures) (w .largest-is ∙ w .max-largest .ensures),
+      )
       | in-rest w ↦
           let p = past-end vs (c .loop-item .item) (sym (c .get .ensures) ∙ w .in-rest .is) in
           let n = c .count-item-end .ensures in
