@@ -1,0 +1,73 @@
+-- What refusals keep, and what settle alone changes.
+use mathlib.Core.Path.{_≡_, refl, sym, ap, subst, _∙_}
+use mathlib.Core.Bool.{Bool, true, false, cond}
+use mathlib.Core.List.{List}
+use Prim.Native.Nat.{ℕ}
+use native.Mathlib.Omega.{arith}
+use lib.Dec.{eqb}
+use lib.ListN.{set}
+use Rattle.std.proofs.shelf.Lists.{getD-set-other}
+use Rattle.std.proofs.shelf.Tests.{eqb-false, both-ways}
+use Rattle.std.specs.declared.option.Option.{Option}
+use Rattle.std.specs.declared.option.Option.the-variants.{Some, None}
+use Rattle.std.specs.declared.result.Result.{Result}
+use Rattle.std.specs.declared.result.Result.the-variants.{Ok, Err}
+use Rattle.store.specs.declared.Version.{Version}
+use Rattle.service.specs.declared.refusals.Refusal.{Refusal}
+use Rattle.service.specs.declared.calls.Call.{Call}
+use Rattle.service.specs.declared.calls.Call.the-variants.{Begin, Read, Write, Close, Certify, Commit, Abort, Settle}
+use Rattle.service.specs.declared.calls.Answer.{Answer}
+use Rattle.service.specs.declared.tools.Phase.the-variants.{Committed, Failed}
+use Rattle.service.specs.Refusals.{refusal, rejects}
+use Rattle.service.specs.Entries.{settledVersion}
+use Rattle.service.specs.Service.{Seat, State, seat, version, entry, is, toolOf, rules, phased, reseat, nextVersions, outcome, step}
+use Rattle.service.proofs.Sound.{within}
+use Rattle.history.specs.History.{kind, settles}
+use Rattle.history.specs.Runs.{Queues-hold, Refusals-keep, Only-settle-writes}
+use Rattle.history.proofs.Whole.{run-sound}
+
+pub queues-hold : Queues-hold
+queues-hold vs h s r = within s (run-sound vs h s r)
+
+pub refusals-keep : Refusals-keep
+refusals-keep s c r s′ d f = go (refusal (rules s c)) d
+  where
+    go : (o : Option Refusal) → outcome s (seat s (toolOf c)) c o ≡ (Err r, s′) → s′ ≡ s
+    go None q =
+        let e = ap (λ (p : Result Answer Refusal × State). p .0) q in
+        let z : _≡_ {A = ℕ} 0 1 = cc in
+        absurd (omega arith)
+    go (Some n) q =
+        let e : _≡_ {A = Result Answer Refusal} (Err n) (Err r) = ap (λ (p : Result Answer Refusal × State). p .0) q in
+        let m : n ≡ r = cc in
+        let b : rejects n ≡ false = ap rejects m ∙ f in
+        sym (ap (λ (p : Result Answer Refusal × State). p .1) q) ∙ rw b
+
+-- over any seat: an accepted call
+next-versions : (s : State) (x : Seat) (c : Call) (i : ℕ) → settles i (kind c) ≡ false → version (nextVersions s x c) i ≡ version (s .versions) i
+next-versions s x (Begin t) i h = refl
+next-versions s x (Read t j) i h = refl
+next-versions s x (Write t j v) i h = refl
+next-versions s x (Close t k) i h = refl
+next-versions s x (Certify t j) i h = refl
+next-versions s x (Commit t) i h = refl
+next-versions s x (Abort t) i h = refl
+next-versions s x (Settle t j) i h = go (is (x .phase) Committed)
+  where
+    new : Version
+    new = settledVersion (entry x j) (x .stamp) (version (s .versions) j)
+
+    go : (b : Bool) → version (cond b (set (s .versions) j new) (s .versions)) i ≡ version (s .versions) i
+    go true = getD-set-other (s .versions) j i new (record { value = 0; twrite = 0; tread = 0 }) (eqb-false i j h)
+    go false = refl
+
+pub only-settle-writes : Only-settle-writes
+only-settle-writes s c a s′ d i h = subst (λ (p : Result Answer Refusal × State). version (p .1 .versions) i ≡ version (s .versions) i) d (go (refusal (rules s c)))
+  where
+    kept : (b : Bool) → version (cond b (reseat s (toolOf c) (phased (seat s (toolOf c)) Failed)) s .versions) i ≡ version (s .versions) i
+    kept true = refl
+    kept false = refl
+
+    go : (o : Option Refusal) → version (outcome s (seat s (toolOf c)) c o .1 .versions) i ≡ version (s .versions) i
+    go None = next-versions s (seat s (toolOf c)) c i h
+    go (Some r) = kept (rejects r)
