@@ -12,3 +12,5 @@ pub mod Final
 pub mod Whole
 pub mod Laws
 pub mod Stamps
+pub mod Shortcuts
+pub mod Example

@@ -1,2 +1,4 @@
 pub mod History
 pub mod Runs
+pub mod Shortcuts
+pub mod Example

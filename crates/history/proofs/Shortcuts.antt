@@ -1,0 +1,22 @@
+-- Each shortcut's history computed: a read that the serial run answers otherwise, or a value that it does not leave.
+use mathlib.Core.Path.{_≡_, refl, ap, subst, sym}
+use mathlib.Core.Bool.{true}
+use mathlib.Core.List.{List, [], _∷_}
+use mathlib.Core.Logic.{_⊎_, inl, inr}
+use Prim.Native.Nat.{ℕ}
+use native.Mathlib.Omega.{arith}
+use Rattle.history.specs.History.{Transaction, Cell, transactions, isCommitted, among, uses, settles, Settled, Law, In}
+use Rattle.history.specs.Shortcuts.{Shortcuts-break, one, youngestOnly, loweredTread, lateWrite, equalValues}
+
+pub shortcuts-break : Shortcuts-break
+shortcuts-break = record {
+  youngest-only = λ l. let z : _≡_ {A = ℕ} 0 1 = l .serial-reads .0 .1 .1 .1 .1 .0 in omega arith;
+  lowered-tread = λ l. let z : _≡_ {A = ℕ} 0 1 = l .serial-reads .0 .1 .1 .1 .1 .0 in omega arith;
+  late-write = λ l. let z : _≡_ {A = ℕ} 9 7 = ap (λ (c : Cell). c .value) (l .serial-item 0 (omega arith) settled) in omega arith;
+  equal-values = λ l. let z : _≡_ {A = ℕ} 0 1 = l .serial-reads .1 .0 .1 .1 .1 .1 .0 in omega arith;
+}
+  where
+    settled : Settled 0 (transactions lateWrite)
+    settled x (inl e) c u = ap (λ (y : Transaction). among (settles 0) (y .calls)) e
+    settled x (inr (inl e)) c u = ap (λ (y : Transaction). among (settles 0) (y .calls)) e
+    settled x (inr (inr m)) c u = absurd m
