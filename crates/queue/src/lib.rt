@@ -1,12 +1,16 @@
 // One ordered queue for every kind of token that tells its item and its stamp.
 ghost use mathlib.Core.Path.{_≡_};
+ghost use mathlib.Core.Bool.{cond};
 ghost use mathlib.Core.List.{[]};
-ghost use Rattle.queue.specs.Tokens.{Tells};
+ghost use lib.Dec.{ltb};
+ghost use lib.ListN.{length, take};
+ghost use Rattle.queue.specs.Tokens.{Tells, insert, has, remove, count, oldest, youngest, placed, taken};
 ghost use Rattle.queue.specs.Queues.{tokens};
 use store::Item;
 use store::Stamp;
 
 mod queues;
+pub mod slices;
 
 pub use queues::PLACES;
 pub use queues::Queue;
@@ -22,6 +26,22 @@ pub trait Token: Copy {
         ensures { λ r. ⌜ r ≡ tells .stamp (now (self .entry)) ⌝ };
 }
 
+// A kind of token that a queue can change. Each method passes its array on to the function of `slices`, since the
+// checker follows an array that is lent as a slice only where it knows the type of the elements.
+pub trait Queued: Token {
+    // `slices::insert`
+    fn insert_into(places: &mut [Self; PLACES], used: usize, token: Self) -> bool
+        ensures whole { λ _. ⌜ length (now (places .entry)) ≡ 128 ⌝ }
+        ensures fits { λ r. ⌜ r ≡ ltb used 128 ⌝ }
+        ensures after { λ r. ⌜ now (places .exit) ≡ cond r (placed tells used token (now (places .entry))) (now (places .entry)) ⌝ };
+
+    // `slices::remove`
+    fn remove_from(places: &mut [Self; PLACES], used: usize, item: Item, stamp: Stamp) -> bool
+        ensures whole { λ _. ⌜ length (now (places .entry)) ≡ 128 ⌝ }
+        ensures found { λ r. ⌜ r ≡ has tells item stamp (take used (now (places .entry))) ⌝ }
+        ensures after { λ _. ⌜ now (places .exit) ≡ taken tells used item stamp (now (places .entry)) ⌝ };
+}
+
 impl<T: Token> Queue<T> {
     // An empty queue; `blank` fills its places.
     pub fn new(blank: T) -> Queue<T>
@@ -31,5 +51,64 @@ impl<T: Token> Queue<T> {
             places: [blank; PLACES],
             used: 0,
         }
+    }
+
+    pub fn len(&self) -> usize
+        ensures { λ r. ⌜ r ≡ length (tokens (now (self .entry))) ⌝ }
+    {
+        self.tokens().len()
+    }
+
+    // How many tokens the item has.
+    pub fn count(&self, item: Item) -> usize
+        ensures { λ r. ⌜ r ≡ count tells item (tokens (now (self .entry))) ⌝ }
+    {
+        slices::count(self.tokens(), item)
+    }
+
+    // The oldest token of the item with a larger stamp.
+    pub fn oldest_above(&self, item: Item, stamp: Stamp) -> Option<T>
+        ensures { λ r. ⌜ r ≡ oldest tells item stamp (tokens (now (self .entry))) ⌝ }
+    {
+        slices::oldest_above(self.tokens(), item, stamp)
+    }
+
+    pub fn youngest(&self, item: Item) -> Option<T>
+        ensures { λ r. ⌜ r ≡ youngest tells item (tokens (now (self .entry))) ⌝ }
+    {
+        slices::youngest(self.tokens(), item)
+    }
+
+    fn tokens(&self) -> &[T]
+        ensures { λ r. ⌜ now r ≡ tokens (now (self .entry)) ⌝ }
+    {
+        let places = &self.places[..];
+        &places[0..self.used]
+    }
+}
+
+impl<T: Queued> Queue<T> {
+    // Puts the token behind those of an equal or smaller stamp; a full queue refuses it and stays as it is.
+    pub fn insert(&mut self, token: T) -> bool
+        ensures fits { λ r. ⌜ r ≡ ltb (length (tokens (now (self .entry)))) 128 ⌝ }
+        ensures after { λ _. ⌜ tokens (now (self .exit)) ≡ insert (T·Token .tells) 128 token (tokens (now (self .entry))) ⌝ }
+    {
+        let fits = T::insert_into(&mut self.places, self.used, token);
+        if fits {
+            self.used += 1;
+        }
+        fits
+    }
+
+    // Takes out the first token with that item and stamp, and says whether there was one.
+    pub fn remove(&mut self, item: Item, stamp: Stamp) -> bool
+        ensures found { λ r. ⌜ r ≡ has (T·Token .tells) item stamp (tokens (now (self .entry))) ⌝ }
+        ensures after { λ _. ⌜ tokens (now (self .exit)) ≡ remove (T·Token .tells) item stamp (tokens (now (self .entry))) ⌝ }
+    {
+        let found = T::remove_from(&mut self.places, self.used, item, stamp);
+        if found {
+            self.used -= 1;
+        }
+        found
     }
 }
