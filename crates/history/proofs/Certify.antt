@@ -23,9 +23,9 @@ use Rattle.service.specs.Sound.{isRead, Sound}
 use Rattle.service.proofs.Phases.{clash}
 use Rattle.service.proofs.Entries.{find-item, enter-cases}
 use Rattle.service.proofs.Rules.{Clear}
-use Rattle.service.proofs.Queued.{none-between, all-below}
 use Rattle.service.proofs.Seats.{SeatCases, seat-cases}
 use Rattle.history.specs.History.{In}
+use Rattle.history.proofs.Questions.{none-between, all-below}
 use Rattle.history.proofs.Cards.{Card, Ghost, Source, SeatOk, Core, Stands, Done, HeldBy, SeatHolds, Gap, seat-core}
 
 -- what the first three tests say of a read at w

@@ -1,5 +1,6 @@
 pub mod Order
 pub mod Transactions
+pub mod Questions
 pub mod Cards
 pub mod Moves
 pub mod Certify
