@@ -1,6 +1,6 @@
 -- The invariant of the certification, over the state and a card for each committed transaction.
-use mathlib.Core.Path.{_≡_, refl, sym, ap, subst, _∙_}
-use mathlib.Core.Bool.{Bool, true, false, cond}
+use mathlib.Core.Path.{_≡_, sym, subst}
+use mathlib.Core.Bool.{true}
 use mathlib.Core.List.{List, [], _∷_}
 use mathlib.Core.Logic.{_⊎_, inl, inr}
 use Prim.Native.Nat.{ℕ, _<_, _≤_, _+_, _*_, _/_, _%_}
@@ -11,8 +11,6 @@ use Rattle.store.specs.declared.Version.{Version}
 use Rattle.service.specs.declared.tools.Entry.{Entry}
 use Rattle.service.specs.declared.tools.Phase.the-variants.{Closed, Committed}
 use Rattle.service.specs.declared.tools.Stand.the-variants.{Bare}
-use Rattle.service.specs.declared.tokens.ReadToken.{ReadToken}
-use Rattle.service.specs.declared.tokens.WriteToken.{WriteToken}
 use Rattle.service.specs.Entries.{isHeld, find, stood}
 use Rattle.service.specs.Service.{Seat, State, seat, version, fresh, largest}
 use Rattle.service.specs.Sound.{Stamped, Sound}
@@ -64,43 +62,47 @@ CardHolds C st i e = (c : Card) × In c C × (c .stamp ≡ st) × (find i (c .en
 abbrev pub SeatHolds : Seat → ℕ → ℕ → Entry → Type 0
 SeatHolds x st i e = (x .phase ≡ Closed) × (x .stamp ≡ st) × (find i (x .entries) ≡ Some e) × (isHeld (e .stand) ≡ true)
 
+abbrev pub seatAt : List Seat → ℕ → Seat
+seatAt xs t = getD xs t (fresh 0)
+
 -- a committed transaction, or one that may still commit, holds e for item i under the stamp st
-abbrev pub HeldBy : State → List Card → ℕ → ℕ → Entry → Type 0
-HeldBy s C st i e = CardHolds C st i e ⊎ ((t : ℕ) × (t < 16) × SeatHolds (seat s t) st i e)
+abbrev pub HeldBy : List Seat → List Card → ℕ → ℕ → Entry → Type 0
+HeldBy xs C st i e = CardHolds C st i e ⊎ ((t : ℕ) × (t < 16) × SeatHolds (seatAt xs t) st i e)
 
 -- no write lies between a reader and what it read
-abbrev pub Gap : State → List Card → Type 0
-Gap s C = (i w st st′ : ℕ) (e f : Entry) → HeldBy s C st i e → e .seen ≡ Some w → HeldBy s C st′ i f → f .written ≡ true → w < st′ → st′ < st → ⊥
+abbrev pub Gap : List Seat → List Card → Type 0
+Gap xs C = (i w st st′ : ℕ) (e f : Entry) → HeldBy xs C st i e → e .seen ≡ Some w → HeldBy xs C st′ i f → f .written ≡ true → w < st′ → st′ < st → ⊥
 
 abbrev pub Apart : List Card → Type 0
 Apart [] = Unit
 Apart (c ∷ cs) = ((d : Card) → In d cs → d .stamp ≡ c .stamp → ⊥) × Apart cs
 
-pub record Core (vs : List Version) (s : State) (g : Ghost) : Type 0 where
-  pub count : length (s .versions) ≡ length vs
-  pub seats : (t : ℕ) → t < 16 → SeatOk vs (g .cards) (g .base t) t (seat s t)
-  pub store : (i : ℕ) → i < length vs → Source vs (g .cards) i (version (s .versions) i .twrite) (version (s .versions) i .value)
+-- over the versions at start, the versions and the seats now, and the cards
+pub record Carded (vs ws : List Version) (xs : List Seat) (g : Ghost) : Type 0 where
+  pub count : length ws ≡ length vs
+  pub seats : (t : ℕ) → t < 16 → SeatOk vs (g .cards) (g .base t) t (seatAt xs t)
+  pub store : (i : ℕ) → i < length vs → Source vs (g .cards) i (version ws i .twrite) (version ws i .value)
   pub card-stamp : (c : Card) → In c (g .cards) → (c .tool < 16) × (c .stamp % 16 ≡ c .tool) × (largest vs < c .stamp)
   pub card-source : (c : Card) (i : ℕ) (e : Entry) (w : ℕ) → In c (g .cards) → find i (c .entries) ≡ Some e → e .seen ≡ Some w → Source vs (g .cards) i w (c .base i)
   pub card-older : (c : Card) (i : ℕ) (e : Entry) (w : ℕ) → In c (g .cards) → find i (c .entries) ≡ Some e → e .seen ≡ Some w → w < c .stamp
   pub cover : (c : Card) (i : ℕ) (e : Entry) → In c (g .cards) → find i (c .entries) ≡ Some e
-      → Stands (seat s (c .tool)) (c .stamp) i e ⊎ Done (version (s .versions) i) (c .stamp) e
-  pub gap : Gap s (g .cards)
+      → Stands (seatAt xs (c .tool)) (c .stamp) i e ⊎ Done (version ws i) (c .stamp) e
+  pub gap : Gap xs (g .cards)
   pub apart : Apart (g .cards)
 
--- one seat and the queues are changed, and no version
-module _ (vs : List Version) (s : State) (g : Ghost) (k : Core vs s g) (z : Sound s) (t : ℕ) (lt : t < 16) (x : Seat) (rs : List ReadToken) (ws : List WriteToken) where
-  abbrev pub changed : State
-  changed = record { versions = s .versions; seats = set (s .seats) t x; reads = rs; writes = ws }
+abbrev pub Core : List Version → State → Ghost → Type 0
+Core vs s g = Carded vs (s .versions) (s .seats) g
 
+-- one seat is changed, and no version
+module _ (vs : List Version) (s : State) (g : Ghost) (k : Core vs s g) (z : Sound s) (t : ℕ) (lt : t < 16) (x : Seat) where
   cases : (u : ℕ) → SeatCases (s .seats) t x u
   cases u = seat-cases (s .seats) t x (let a = z .sixteen in omega arith) u
 
   pub seat-core : (b : ℕ → ℕ → ℕ) → ((u : ℕ) → (u ≡ t → ⊥) → b u ≡ g .base u)
       → SeatOk vs (g .cards) (b t) t x
       → (seat s t .phase ≡ Committed → ⊥)
-      → Gap changed (g .cards)
-      → Core vs changed (record { cards = g .cards; base = b })
+      → Gap (set (s .seats) t x) (g .cards)
+      → Carded vs (s .versions) (set (s .seats) t x) (record { cards = g .cards; base = b })
   seat-core b same ok nc gp = record {
     count = k .count;
     seats = λ u h. one u h (cases u);
@@ -113,25 +115,25 @@ module _ (vs : List Version) (s : State) (g : Ghost) (k : Core vs s g) (z : Soun
     apart = k .apart;
   }
     where
-      one : (u : ℕ) → u < 16 → SeatCases (s .seats) t x u → SeatOk vs (g .cards) (b u) u (seat changed u)
+      one : (u : ℕ) → u < 16 → SeatCases (s .seats) t x u → SeatOk vs (g .cards) (b u) u (seatAt (set (s .seats) t x) u)
       one u h (inl (p, q)) = subst (SeatOk vs (g .cards) (b u) u) (sym q) (subst (λ (n : ℕ). SeatOk vs (g .cards) (b n) n x) (sym p) ok)
       one u h (inr (p, q)) = subst (SeatOk vs (g .cards) (b u) u) (sym q) (subst (λ (f : ℕ → ℕ). SeatOk vs (g .cards) f u (seat s u)) (sym (same u p)) (k .seats u h))
 
       cov : (c : Card) (i : ℕ) (e : Entry) → Stands (seat s (c .tool)) (c .stamp) i e ⊎ Done (version (s .versions) i) (c .stamp) e
-          → SeatCases (s .seats) t x (c .tool) → Stands (seat changed (c .tool)) (c .stamp) i e ⊎ Done (version (s .versions) i) (c .stamp) e
+          → SeatCases (s .seats) t x (c .tool) → Stands (seatAt (set (s .seats) t x) (c .tool)) (c .stamp) i e ⊎ Done (version (s .versions) i) (c .stamp) e
       cov c i e (inr y) r = inr y
       cov c i e (inl y) (inl (p, q)) = absurd (nc (subst (λ (n : ℕ). seat s n .phase ≡ Committed) p (y .0)))
       cov c i e (inl y) (inr (p, q)) = inl (subst (λ (n : Seat). Stands n (c .stamp) i e) (sym q) y)
 
   -- nothing more is held
-  pub same-gap : (x .phase ≡ Closed → (i : ℕ) (e : Entry) → find i (x .entries) ≡ Some e → isHeld (e .stand) ≡ true → ⊥) → Gap changed (g .cards)
+  pub same-gap : (x .phase ≡ Closed → (i : ℕ) (e : Entry) → find i (x .entries) ≡ Some e → isHeld (e .stand) ≡ true → ⊥) → Gap (set (s .seats) t x) (g .cards)
   same-gap cl i w st st′ e f h se h′ wr = k .gap i w st st′ e f (back st i e h) se (back st′ i f h′) wr
     where
-      back : (n j : ℕ) (d : Entry) → HeldBy changed (g .cards) n j d → HeldBy s (g .cards) n j d
+      back : (n j : ℕ) (d : Entry) → HeldBy (set (s .seats) t x) (g .cards) n j d → HeldBy (s .seats) (g .cards) n j d
       back n j d (inl c) = inl c
       back n j d (inr (u, l, r)) = go (cases u)
         where
-          go : SeatCases (s .seats) t x u → HeldBy s (g .cards) n j d
+          go : SeatCases (s .seats) t x u → HeldBy (s .seats) (g .cards) n j d
           go (inl (p, q)) =
               let y : SeatHolds x n j d = subst (λ (a : Seat). SeatHolds a n j d) q r in
               absurd (cl (y .0) j d (y .2) (y .3))

@@ -1,12 +1,12 @@
 -- Certify: an honoured entry gets its tokens, and falls between no reader and what it read.
 use mathlib.Core.Path.{_≡_, refl, sym, ap, subst, _∙_}
-use mathlib.Core.Bool.{Bool, true, false, cond, not, _&&_}
-use mathlib.Core.List.{List, [], _∷_}
+use mathlib.Core.Bool.{Bool, true, false, not, _&&_}
+use mathlib.Core.List.{List}
 use mathlib.Core.Logic.{_⊎_, inl, inr}
 use Prim.Native.Nat.{ℕ, _<_, _≤_}
 use native.Mathlib.Omega.{arith}
 use lib.Dec.{leb, eqb}
-use lib.ListN.{length}
+use lib.ListN.{length, set}
 use Rattle.std.proofs.shelf.Tests.{eqb-true, leb-false, not-false}
 use Rattle.std.specs.declared.option.Option.{Option}
 use Rattle.std.specs.declared.option.Option.the-variants.{Some, None}
@@ -17,16 +17,15 @@ use Rattle.service.specs.declared.calls.Call.the-variants.{Certify}
 use Rattle.service.specs.declared.tools.Entry.{Entry}
 use Rattle.service.specs.declared.tools.Phase.the-variants.{Closed, Committed}
 use Rattle.service.specs.declared.tools.Stand.the-variants.{Held}
-use Rattle.service.specs.Entries.{isHeld, find, enter, stood}
-use Rattle.service.specs.Service.{Seat, State, readTells, writeTells, seat, version, entry, certifies, next, nextSeat, nextReads, nextWrites}
-use Rattle.service.specs.Sound.{isRead, Sound}
+use Rattle.service.specs.Entries.{isHeld, find, stood}
+use Rattle.service.specs.Service.{Seat, State, readTells, writeTells, seat, version, entry, certifies, next, nextSeat}
+use Rattle.service.specs.Sound.{Sound}
 use Rattle.service.proofs.Phases.{clash}
 use Rattle.service.proofs.Entries.{find-item, enter-cases}
 use Rattle.service.proofs.Rules.{Clear}
 use Rattle.service.proofs.Seats.{SeatCases, seat-cases}
-use Rattle.history.specs.History.{In}
 use Rattle.history.proofs.Questions.{none-between, all-below}
-use Rattle.history.proofs.Cards.{Card, Ghost, Source, SeatOk, Core, Stands, Done, HeldBy, SeatHolds, Gap, seat-core}
+use Rattle.history.proofs.Cards.{Ghost, Source, SeatOk, Core, Stands, Done, HeldBy, SeatHolds, seat-core}
 
 -- what the first three tests say of a read at w
 passed : (o : Option ℕ) (w tw st : ℕ) (b : Bool) → o ≡ Some w → (isSome o && not (eqb tw (valueOr o 0))) ≡ false → (isSome o && leb st tw) ≡ false → (isSome o && b) ≡ false
@@ -98,20 +97,20 @@ module _ (vs : List Version) (s : State) (g : Ghost) (k : Core vs s g) (z : Soun
   abbrev Now : ℕ → ℕ → Entry → Type 0
   Now n j f = (n ≡ st) × (j ≡ i) × (stood e Held ≡ f)
 
-  held-back : (n j : ℕ) (f : Entry) → HeldBy (next s (seat s t) (Certify t i)) (g .cards) n j f → HeldBy s (g .cards) n j f ⊎ Now n j f
+  held-back : (n j : ℕ) (f : Entry) → HeldBy (set (s .seats) t x) (g .cards) n j f → HeldBy (s .seats) (g .cards) n j f ⊎ Now n j f
   held-back n j f (inl c) = inl (inl c)
   held-back n j f (inr (u, h, y)) = go (seat-cases (s .seats) t x (let a = z .sixteen in omega arith) u)
     where
-      mine : SeatHolds x n j f → Was j f → HeldBy s (g .cards) n j f ⊎ Now n j f
+      mine : SeatHolds x n j f → Was j f → HeldBy (s .seats) (g .cards) n j f ⊎ Now n j f
       mine y (inl (p, q)) = inr (sym (y .1), p, q)
       mine y (inr (p, q)) = inl (inr (t, lt, (y .0, y .1, q, y .3)))
 
-      go : SeatCases (s .seats) t x u → HeldBy s (g .cards) n j f ⊎ Now n j f
+      go : SeatCases (s .seats) t x u → HeldBy (s .seats) (g .cards) n j f ⊎ Now n j f
       go (inl (p, q)) = let y′ : SeatHolds x n j f = subst (λ (a : Seat). SeatHolds a n j f) q y in mine y′ (was j f (y′ .2))
       go (inr (p, q)) = inl (inr (u, h, subst (λ (a : Seat). SeatHolds a n j f) q y))
 
   -- a held write stands in the queue, or is at or below twrite; and likewise a held read
-  covered-w : (n : ℕ) (f : Entry) → HeldBy s (g .cards) n i f → f .written ≡ true → (has writeTells i n (s .writes) ≡ true) ⊎ (n ≤ tw)
+  covered-w : (n : ℕ) (f : Entry) → HeldBy (s .seats) (g .cards) n i f → f .written ≡ true → (has writeTells i n (s .writes) ≡ true) ⊎ (n ≤ tw)
   covered-w n f (inr (u, h, (a, b, c, d))) wr = inl (subst (λ (m : ℕ). has writeTells i m (s .writes) ≡ true) b (z .seats u h .write i f c d wr))
   covered-w n f (inl (c, m, q, fc)) wr = go (k .cover c i f m fc)
     where
@@ -120,7 +119,7 @@ module _ (vs : List Version) (s : State) (g : Ghost) (k : Core vs s g) (z : Soun
           (z .seats (c .tool) (k .card-stamp c m .0) .write i h fh d (ap (λ (y : Entry). y .written) ch ∙ wr)))
       go (inr y) = inr (let a = y .1 wr in omega arith)
 
-  covered-r : (n w : ℕ) (f : Entry) → HeldBy s (g .cards) n i f → f .seen ≡ Some w → (has readTells i n (s .reads) ≡ true) ⊎ (n ≤ version (s .versions) i .tread)
+  covered-r : (n w : ℕ) (f : Entry) → HeldBy (s .seats) (g .cards) n i f → f .seen ≡ Some w → (has readTells i n (s .reads) ≡ true) ⊎ (n ≤ version (s .versions) i .tread)
   covered-r n w f (inr (u, h, (a, b, c, d))) se = inl (subst (λ (m : ℕ). has readTells i m (s .reads) ≡ true) b (z .seats u h .read i f c d (is-some (f .seen) w se)))
   covered-r n w f (inl (c, m, q, fc)) se = go (k .cover c i f m fc)
     where
@@ -130,7 +129,7 @@ module _ (vs : List Version) (s : State) (g : Ghost) (k : Core vs s g) (z : Soun
       go (inr y) = inr (let a = y .0 w se in omega arith)
 
   -- the new read has no held write between
-  new-read : (w n : ℕ) (f : Entry) → e .seen ≡ Some w → HeldBy s (g .cards) n i f → f .written ≡ true → w < n → n < st → ⊥
+  new-read : (w n : ℕ) (f : Entry) → e .seen ≡ Some w → HeldBy (s .seats) (g .cards) n i f → f .written ≡ true → w < n → n < st → ⊥
   new-read w n f se h wr a b = go (covered-w n f h wr)
     where
       fs : (tw ≡ w) × (tw < st) × (between writeTells i tw st (s .writes) ≡ false)
@@ -141,23 +140,23 @@ module _ (vs : List Version) (s : State) (g : Ghost) (k : Core vs s g) (z : Soun
       go (inr y) = let q = fs .0 in omega arith
 
   -- the new write is above every held reader
-  new-write : (w n : ℕ) (f : Entry) → e .written ≡ true → HeldBy s (g .cards) n i f → f .seen ≡ Some w → st < n → ⊥
+  new-write : (w n : ℕ) (f : Entry) → e .written ≡ true → HeldBy (s .seats) (g .cards) n i f → f .seen ≡ Some w → st < n → ⊥
   new-write w n f wr h se b = go (covered-r n w f h se)
     where
       go : (has readTells i n (s .reads) ≡ true) ⊎ (n ≤ version (s .versions) i .tread) → ⊥
       go (inl y) = let a = all-below readTells i st n (s .reads) (rw wr at (r .1 .1 .1 .1 .0)) y in omega arith
       go (inr y) = let a = leb-false st (version (s .versions) i .tread) (rw wr at (r .1 .1 .1 .0)) in omega arith
 
-  gap : (j w n n′ : ℕ) (a b : Entry) → HeldBy s (g .cards) n j a ⊎ Now n j a → a .seen ≡ Some w → HeldBy s (g .cards) n′ j b ⊎ Now n′ j b → b .written ≡ true
+  gap : (j w n n′ : ℕ) (a b : Entry) → HeldBy (s .seats) (g .cards) n j a ⊎ Now n j a → a .seen ≡ Some w → HeldBy (s .seats) (g .cards) n′ j b ⊎ Now n′ j b → b .written ≡ true
       → w < n′ → n′ < n → ⊥
   gap j w n n′ a b (inl h) se (inl h′) wr l m = k .gap j w n n′ a b h se h′ wr l m
   gap j w n n′ a b (inr (p, q, y)) se (inl h′) wr l m =
-      new-read w n′ b (seen-of a w y se) (subst (λ (v : ℕ). HeldBy s (g .cards) n′ v b) q h′) wr l (omega arith)
+      new-read w n′ b (seen-of a w y se) (subst (λ (v : ℕ). HeldBy (s .seats) (g .cards) n′ v b) q h′) wr l (omega arith)
   gap j w n n′ a b (inl h) se (inr (p, q, y)) wr l m =
-      new-write w n a (ap (λ (v : Entry). v .written) y ∙ wr) (subst (λ (v : ℕ). HeldBy s (g .cards) n v a) q h) se (omega arith)
+      new-write w n a (ap (λ (v : Entry). v .written) y ∙ wr) (subst (λ (v : ℕ). HeldBy (s .seats) (g .cards) n v a) q h) se (omega arith)
   gap j w n n′ a b (inr (p, q, y)) se (inr (p′, q′, y′)) wr l m = omega arith
 
   pub certify-core : Core vs (next s (seat s t) (Certify t i)) g
-  certify-core = seat-core vs s g k z t lt x (nextReads s (seat s t) (Certify t i)) (nextWrites s (seat s t) (Certify t i)) (g .base) (λ _ _. refl) okx
+  certify-core = seat-core vs s g k z t lt x (g .base) (λ _ _. refl) okx
       (λ q. clash (seat s t .phase) Closed Committed cl q refl)
       (λ j w n n′ a b h se h′ wr. gap j w n n′ a b (held-back n j a h) se (held-back n′ j b h′) wr)

@@ -3,22 +3,22 @@ use mathlib.Core.Path.{_≡_, refl, sym, ap, subst, _∙_}
 use mathlib.Core.Bool.{Bool, true, false, cond}
 use mathlib.Core.List.{List, [], _∷_}
 use mathlib.Core.Logic.{_⊎_, inl, inr}
-use Prim.Native.Nat.{ℕ, _<_, _≤_, _+_, _*_, _/_, _%_}
+use Prim.Native.Nat.{ℕ, _<_, _≤_, _+_, _*_, _%_}
 use native.Mathlib.Omega.{arith}
-use lib.ListN.{length}
+use lib.ListN.{set}
 use Rattle.std.specs.declared.option.Option.the-variants.{Some}
 use Rattle.store.specs.declared.Version.{Version}
 use Rattle.service.specs.declared.calls.Call.the-variants.{Commit}
 use Rattle.service.specs.declared.tools.Entry.{Entry}
 use Rattle.service.specs.declared.tools.Phase.the-variants.{Idle, Closed, Committed}
-use Rattle.service.specs.Entries.{isHeld, find, allHeld}
+use Rattle.service.specs.Entries.{find, allHeld}
 use Rattle.service.specs.Service.{Seat, State, seat, version, largest, phased, rested, isEmpty, next, nextSeat}
 use Rattle.service.specs.Sound.{Sound}
 use Rattle.service.proofs.Phases.{clash, stamped-at}
 use Rattle.service.proofs.Entries.{no-find, all-held}
 use Rattle.service.proofs.Seats.{SeatCases, seat-cases}
 use Rattle.history.specs.History.{In}
-use Rattle.history.proofs.Cards.{Card, Ghost, Source, SeatOk, Core, Stands, Done, HeldBy, SeatHolds}
+use Rattle.history.proofs.Cards.{Card, Ghost, Source, SeatOk, Core, Stands, Done, seatAt, HeldBy, SeatHolds}
 use Rattle.history.proofs.Moves.{rested-ok}
 
 source-more : (vs : List Version) (C : List Card) (d : Card) (i w v : ℕ) → Source vs C i w v → Source vs (d ∷ C) i w v
@@ -85,14 +85,14 @@ module _ (vs : List Version) (s : State) (g : Ghost) (k : Core vs s g) (z : Soun
   cases : (u : ℕ) → Cases u
   cases u = seat-cases (s .seats) t x (let a = z .sixteen in omega arith) u
 
-  held-back : (n i : ℕ) (e : Entry) → HeldBy (next s (seat s t) (Commit t)) (dealt ∷ g .cards) n i e → HeldBy s (g .cards) n i e
+  held-back : (n i : ℕ) (e : Entry) → HeldBy (set (s .seats) t x) (dealt ∷ g .cards) n i e → HeldBy (s .seats) (g .cards) n i e
   held-back n i e (inl (c, inl q, a, f)) =
       let f′ : find i (seat s t .entries) ≡ Some e = subst (λ (d : Card). find i (d .entries) ≡ Some e) q f in
       inr (t, lt, (cl, sym (ap (λ (d : Card). d .stamp) q) ∙ a, f′, all-held i e (seat s t .entries) ah f′))
   held-back n i e (inl (c, inr m, a, f)) = inl (c, m, a, f)
   held-back n i e (inr (u, h, r)) = go (cases u)
     where
-      go : Cases u → HeldBy s (g .cards) n i e
+      go : Cases u → HeldBy (s .seats) (g .cards) n i e
       go (inl (p, q)) = absurd (not-closed (isEmpty (seat s t .entries)) (subst (λ (y : Seat). y .phase ≡ Closed) q (r .0)))
       go (inr (p, q)) = inr (u, h, subst (λ (y : Seat). SeatHolds y n i e) q r)
 
@@ -113,7 +113,7 @@ module _ (vs : List Version) (s : State) (g : Ghost) (k : Core vs s g) (z : Soun
     apart = (λ d m q. let a = k .card-stamp d m in let b = st .0 in ok .new cl d m (omega arith) q, k .apart);
   }
     where
-      one : (u : ℕ) → u < 16 → Cases u → SeatOk vs (dealt ∷ g .cards) (g .base u) u (seat (next s (seat s t) (Commit t)) u)
+      one : (u : ℕ) → u < 16 → Cases u → SeatOk vs (dealt ∷ g .cards) (g .base u) u (seatAt (set (s .seats) t x) u)
       one u h (inl (p, q)) = subst (SeatOk vs (dealt ∷ g .cards) (g .base u) u) (sym q)
           (subst (λ (n : ℕ). SeatOk vs (dealt ∷ g .cards) (g .base n) n x) (sym p) (ok3 (isEmpty (seat s t .entries))))
       one u h (inr (p, q)) = subst (SeatOk vs (dealt ∷ g .cards) (g .base u) u) (sym q) (ok-more vs (g .cards) dealt (g .base u) u (seat s u) (λ a. p (sym a)) (k .seats u h))
@@ -134,18 +134,18 @@ module _ (vs : List Version) (s : State) (g : Ghost) (k : Core vs s g) (z : Soun
       card-older c i e w (inr m) f se = k .card-older c i e w m f se
 
       cov : (c : Card) (i : ℕ) (e : Entry) → Stands (seat s (c .tool)) (c .stamp) i e ⊎ Done (version (s .versions) i) (c .stamp) e → Cases (c .tool)
-          → Stands (seat (next s (seat s t) (Commit t)) (c .tool)) (c .stamp) i e ⊎ Done (version (s .versions) i) (c .stamp) e
+          → Stands (seatAt (set (s .seats) t x) (c .tool)) (c .stamp) i e ⊎ Done (version (s .versions) i) (c .stamp) e
       cov c i e (inr y) r = inr y
       cov c i e (inl y) (inl (p, q)) = absurd (clash (seat s t .phase) Closed Committed cl (subst (λ (n : ℕ). seat s n .phase ≡ Committed) p (y .0)) refl)
       cov c i e (inl y) (inr (p, q)) = inl (subst (λ (a : Seat). Stands a (c .stamp) i e) (sym q) y)
 
-      mine : (i : ℕ) (e : Entry) → find i (seat s t .entries) ≡ Some e → Cases t → Stands (seat (next s (seat s t) (Commit t)) t) (seat s t .stamp) i e
+      mine : (i : ℕ) (e : Entry) → find i (seat s t .entries) ≡ Some e → Cases t → Stands (seatAt (set (s .seats) t x) t) (seat s t .stamp) i e
       mine i e f (inl (p, q)) = subst (λ (a : Seat). Stands a (seat s t .stamp) i e) (sym (q ∙ stands i e (seat s t .entries) f))
           (refl, refl, e, f, all-held i e (seat s t .entries) ah f, refl)
       mine i e f (inr (p, q)) = absurd (p refl)
 
       cover : (c : Card) (i : ℕ) (e : Entry) → In c (dealt ∷ g .cards) → find i (c .entries) ≡ Some e
-          → Stands (seat (next s (seat s t) (Commit t)) (c .tool)) (c .stamp) i e ⊎ Done (version (s .versions) i) (c .stamp) e
-      cover c i e (inl q) f = inl (subst (λ (d : Card). Stands (seat (next s (seat s t) (Commit t)) (d .tool)) (d .stamp) i e) (sym q)
+          → Stands (seatAt (set (s .seats) t x) (c .tool)) (c .stamp) i e ⊎ Done (version (s .versions) i) (c .stamp) e
+      cover c i e (inl q) f = inl (subst (λ (d : Card). Stands (seatAt (set (s .seats) t x) (d .tool)) (d .stamp) i e) (sym q)
           (mine i e (subst (λ (d : Card). find i (d .entries) ≡ Some e) q f) (cases t)))
       cover c i e (inr m) f = cov c i e (k .cover c i e m f) (cases (c .tool))

@@ -4,12 +4,11 @@ use mathlib.Core.List.{List, [], _∷_}
 use Rattle.std.specs.declared.result.Result.{Result}
 use Rattle.store.specs.declared.Version.{Version}
 use Rattle.service.specs.declared.refusals.Refusal.{Refusal}
-use Rattle.service.specs.declared.calls.Call.{Call}
 use Rattle.service.specs.declared.calls.Answer.{Answer}
 use Rattle.service.specs.Service.{State, step, start}
-use Rattle.history.specs.History.{History, Event}
+use Rattle.history.specs.History.{History}
 use Rattle.history.specs.Runs.{Run, started, called}
-use Rattle.history.specs.Example.{Example-meets, before, after, calls}
+use Rattle.history.specs.Example.{Example-meets, before, calls}
 use Rattle.history.proofs.Whole.{serial-order}
 
 -- the state after a history's calls, whatever it says of their answers

@@ -1,5 +1,5 @@
 -- From the invariants to the law.
-use mathlib.Core.Path.{_≡_, refl, sym, ap, subst, _∙_}
+use mathlib.Core.Path.{_≡_, refl, sym, ap, _∙_}
 use mathlib.Core.Bool.{Bool, true, false}
 use mathlib.Core.List.{List, [], _∷_}
 use mathlib.Core.Logic.{_⊎_, inl, inr}
@@ -16,7 +16,7 @@ use Rattle.service.specs.Entries.{find}
 use Rattle.service.specs.Service.{State, seat, version, largest}
 use Rattle.service.proofs.Phases.{clash}
 use Rattle.service.proofs.Entries.{no-find, same-some}
-use Rattle.history.specs.History.{Transaction, Accepted, In, Cell, Cells, cells, isCommitted, stampOf, among, settles, ordered, serial, AllRight, Settled}
+use Rattle.history.specs.History.{Transaction, Accepted, In, Cell, Cells, cells, stampOf, among, settles, ordered, serial, AllRight, Settled}
 use Rattle.history.proofs.Order.{cell, Keeps, Leaves, Wrote, From, Strict, final, Reader, all-right}
 use Rattle.history.proofs.Cards.{Card, Ghost, Source, Core, Stands, Done}
 use Rattle.history.proofs.Transactions.{latest-in, in-ordered, ordered-in, strict-ordered}

@@ -1,17 +1,15 @@
 -- What refusals keep, and what settle alone changes.
 use mathlib.Core.Path.{_≡_, refl, sym, ap, subst, _∙_}
 use mathlib.Core.Bool.{Bool, true, false, cond}
-use mathlib.Core.List.{List}
 use Prim.Native.Nat.{ℕ}
 use native.Mathlib.Omega.{arith}
-use lib.Dec.{eqb}
 use lib.ListN.{set}
 use Rattle.std.proofs.shelf.Lists.{getD-set-other}
-use Rattle.std.proofs.shelf.Tests.{eqb-false, both-ways}
+use Rattle.std.proofs.shelf.Tests.{eqb-false}
 use Rattle.std.specs.declared.option.Option.{Option}
 use Rattle.std.specs.declared.option.Option.the-variants.{Some, None}
 use Rattle.std.specs.declared.result.Result.{Result}
-use Rattle.std.specs.declared.result.Result.the-variants.{Ok, Err}
+use Rattle.std.specs.declared.result.Result.the-variants.{Err}
 use Rattle.store.specs.declared.Version.{Version}
 use Rattle.service.specs.declared.refusals.Refusal.{Refusal}
 use Rattle.service.specs.declared.calls.Call.{Call}
@@ -20,7 +18,7 @@ use Rattle.service.specs.declared.calls.Answer.{Answer}
 use Rattle.service.specs.declared.tools.Phase.the-variants.{Committed, Failed}
 use Rattle.service.specs.Refusals.{refusal, rejects}
 use Rattle.service.specs.Entries.{settledVersion}
-use Rattle.service.specs.Service.{Seat, State, seat, version, entry, is, toolOf, rules, phased, reseat, nextVersions, outcome, step}
+use Rattle.service.specs.Service.{Seat, State, seat, version, entry, is, toolOf, rules, phased, reseat, nextVersions, outcome}
 use Rattle.service.proofs.Sound.{within}
 use Rattle.history.specs.History.{kind, settles}
 use Rattle.history.specs.Runs.{Queues-hold, Refusals-keep, Only-settle-writes}

@@ -1,11 +1,11 @@
 -- The history's transactions against the seats and the cards.
 use mathlib.Core.Path.{_≡_, refl, sym, ap, subst, _∙_}
-use mathlib.Core.Bool.{Bool, true, false, cond}
+use mathlib.Core.Bool.{true, false}
 use mathlib.Core.List.{List, [], _∷_}
 use mathlib.Core.Logic.{_⊎_, inl, inr}
 use Prim.Native.Nat.{ℕ, _<_}
 use native.Mathlib.Omega.{arith}
-use lib.ListN.{length, getD, set}
+use lib.ListN.{getD, set}
 use Rattle.std.proofs.shelf.Tests.{both-ways, eq-eqb, ne-eqb}
 use Rattle.std.specs.declared.option.Option.the-variants.{Some}
 use Rattle.service.specs.declared.tools.Entry.{Entry}
@@ -16,9 +16,9 @@ use Rattle.service.specs.Sound.{Stamped, Sound}
 use Rattle.service.proofs.Phases.{clash, stamped-at}
 use Rattle.service.proofs.Seats.{SeatCases, seat-cases}
 use Rattle.history.specs.History.{Accepted, Transaction, join, In, isCommitted, stampOf, among, settles}
-use Rattle.history.proofs.Cards.{Card, Ghost}
+use Rattle.history.proofs.Cards.{Card, Ghost, seatAt}
 use Rattle.history.proofs.Tied.{Tied, Neutral, tied-none}
-use Rattle.history.proofs.Transactions.{latest, extended, latest-in, in-join, in-new, in-old, latest-join, latest-other, Apart, Fits, apart-join}
+use Rattle.history.proofs.Transactions.{latest, extended, latest-in, in-join, in-new, in-old, latest-join, latest-other, Apart, apart-join}
 
 -- a seat and its tool's latest transaction
 pub record Linked (x : Seat) (y : Transaction) (b : ℕ → ℕ) : Type 0 where
@@ -35,11 +35,14 @@ CardOf y c = (stampOf y ≡ c .stamp) × Tied (y .calls) (c .entries) (c .base)
 abbrev pub Current : Seat → ℕ → List Transaction → (ℕ → ℕ) → Type 0
 Current x t ts b = (y : Transaction) × (latest t ts ≡ Some y) × Linked x y b
 
-pub record Link (s : State) (g : Ghost) (ts : List Transaction) : Type 0 where
-  pub live : (t : ℕ) → t < 16 → (seat s t .phase ≡ Idle → ⊥) → Current (seat s t) t ts (g .base t)
+pub record Linkage (xs : List Seat) (g : Ghost) (ts : List Transaction) : Type 0 where
+  pub live : (t : ℕ) → t < 16 → (seatAt xs t .phase ≡ Idle → ⊥) → Current (seatAt xs t) t ts (g .base t)
   pub up : (y : Transaction) → In y ts → isCommitted y ≡ true → (c : Card) × In c (g .cards) × CardOf y c
   pub down : (c : Card) → In c (g .cards) → (y : Transaction) × In y ts × (isCommitted y ≡ true) × CardOf y c
   pub apart : Apart ts
+
+abbrev pub Link : State → Ghost → List Transaction → Type 0
+Link s g ts = Linkage (s .seats) g ts
 
 -- an accepted call that is no begin
 module _ (s s′ : State) (g : Ghost) (b : ℕ → ℕ → ℕ) (ts : List Transaction) (k : Link s g ts) (z : Sound s) (e : Accepted) (y : Transaction) (x : Seat)

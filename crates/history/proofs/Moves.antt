@@ -1,7 +1,7 @@
 -- The calls that change one seat and neither the store nor the queues.
-use mathlib.Core.Path.{_≡_, refl, sym, ap, subst, _∙_}
+use mathlib.Core.Path.{_≡_, refl, ap, subst, _∙_}
 use mathlib.Core.Bool.{Bool, true, false, cond}
-use mathlib.Core.List.{List, [], _∷_}
+use mathlib.Core.List.{List}
 use mathlib.Core.Logic.{_⊎_, inl, inr}
 use Prim.Native.Nat.{ℕ, _<_, _≤_, _+_, _*_, _/_}
 use native.Mathlib.Omega.{arith}
@@ -18,11 +18,11 @@ use Rattle.service.specs.declared.tools.Phase.the-variants.{Idle, Open, Closed,
 use Rattle.service.specs.Entries.{isHeld, find, enter, orBlank, readFrom, writtenTo, anyHeld}
 use Rattle.service.specs.Service.{Seat, State, seat, version, entry, is, largest, phased, entered, rested, next, nextSeat, reseat}
 use Rattle.service.specs.Sound.{Stamped, Sound}
-use Rattle.service.proofs.Phases.{clash, stamped-at, not-early}
+use Rattle.service.proofs.Phases.{clash, stamped-at}
 use Rattle.service.proofs.Entries.{no-find, entry-item, enter-cases, any-held, calm-entry, calm-enter}
 use Rattle.service.proofs.Seats.{closedAt}
 use Rattle.history.specs.History.{In}
-use Rattle.history.proofs.Cards.{Card, Ghost, Source, SeatOk, Core, Gap, changed, seat-core, same-gap}
+use Rattle.history.proofs.Cards.{Card, Ghost, Source, SeatOk, Core, seat-core, same-gap}
 
 -- a value first read is noted
 abbrev pub rebase : (ℕ → ℕ → ℕ) → ℕ → ℕ → ℕ → ℕ → ℕ → ℕ
@@ -91,7 +91,7 @@ module _ (vs : List Version) (s : State) (g : Ghost) (k : Core vs s g) (z : Soun
   put-core : (y : Seat) (b : ℕ → ℕ → ℕ) → ((u : ℕ) → (u ≡ t → ⊥) → b u ≡ g .base u) → SeatOk vs (g .cards) (b t) t y → (seat s t .phase ≡ Committed → ⊥)
       → (y .phase ≡ Closed → (i : ℕ) (e : Entry) → find i (y .entries) ≡ Some e → isHeld (e .stand) ≡ true → ⊥)
       → Core vs (reseat s t y) (record { cards = g .cards; base = b })
-  put-core y b same o nc cl = seat-core vs s g k z t lt y (s .reads) (s .writes) b same o nc (same-gap vs s g k z t lt y (s .reads) (s .writes) cl)
+  put-core y b same o nc cl = seat-core vs s g k z t lt y b same o nc (same-gap vs s g k z t lt y cl)
 
   pub begin-core : seat s t .phase ≡ Idle → Core vs (next s (seat s t) (Begin t)) g
   begin-core h = put-core y (g .base) (λ _ _. refl)

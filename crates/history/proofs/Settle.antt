@@ -1,7 +1,7 @@
 -- Settle: one entry's tokens go, and a committed one's version is raised.
 use mathlib.Core.Path.{_≡_, refl, sym, ap, subst, _∙_}
 use mathlib.Core.Bool.{Bool, true, false, cond, _&&_}
-use mathlib.Core.List.{List, [], _∷_}
+use mathlib.Core.List.{List}
 use mathlib.Core.Logic.{_⊎_, inl, inr}
 use Prim.Native.Nat.{ℕ, _<_, _≤_, max}
 use native.Mathlib.Omega.{arith}
@@ -19,12 +19,11 @@ use Rattle.service.specs.declared.tools.Phase.{Phase}
 use Rattle.service.specs.declared.tools.Phase.the-variants.{Idle, Closed, Committed, Aborting}
 use Rattle.service.specs.declared.tools.Stand.the-variants.{Settled}
 use Rattle.service.specs.Entries.{isHeld, find, enter, stood, anyHeld, settledVersion}
-use Rattle.service.specs.Service.{Seat, State, seat, version, entry, is, entered, rested, next, nextSeat, nextVersions}
+use Rattle.service.specs.Service.{Seat, State, seat, version, entry, is, entered, rested, next, nextSeat}
 use Rattle.service.specs.Sound.{Sound}
 use Rattle.service.proofs.Phases.{clash, is-true}
 use Rattle.service.proofs.Entries.{same-some, find-item, find-other, enter-cases, any-held}
 use Rattle.service.proofs.Seats.{SeatCases, seat-cases}
-use Rattle.history.specs.History.{In}
 use Rattle.history.proofs.Cards.{Card, Ghost, core, Source, SeatOk, Core, Stands, Done, HeldBy, SeatHolds}
 use Rattle.history.proofs.Moves.{rested-ok}
 use Rattle.history.proofs.Certify.{is-some}
@@ -118,11 +117,11 @@ module _ (vs : List Version) (s : State) (g : Ghost) (k : Core vs s g) (z : Soun
   not-closed true q = not-settling (seat s t .phase) Closed pc refl refl q
   not-closed false q = clash Idle Idle Closed refl q refl
 
-  held-back : (n j : ℕ) (f : Entry) → HeldBy s′ (g .cards) n j f → HeldBy s (g .cards) n j f
+  held-back : (n j : ℕ) (f : Entry) → HeldBy (s′ .seats) (g .cards) n j f → HeldBy (s .seats) (g .cards) n j f
   held-back n j f (inl c) = inl c
   held-back n j f (inr (u, h, r)) = go (cases u)
     where
-      go : Cases u → HeldBy s (g .cards) n j f
+      go : Cases u → HeldBy (s .seats) (g .cards) n j f
       go (inl (p, q)) = absurd (not-closed (anyHeld es) (subst (λ (y : Seat). y .phase ≡ Closed) q (r .0)))
       go (inr (p, q)) = inr (u, h, subst (λ (y : Seat). SeatHolds y n j f) q r)
 

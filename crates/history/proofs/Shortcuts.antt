@@ -1,12 +1,10 @@
 -- Each shortcut's history computed: a read that the serial run answers otherwise, or a value that it does not leave.
-use mathlib.Core.Path.{_≡_, refl, ap, subst, sym}
-use mathlib.Core.Bool.{true}
-use mathlib.Core.List.{List, [], _∷_}
-use mathlib.Core.Logic.{_⊎_, inl, inr}
+use mathlib.Core.Path.{_≡_, ap}
+use mathlib.Core.Logic.{inl, inr}
 use Prim.Native.Nat.{ℕ}
 use native.Mathlib.Omega.{arith}
-use Rattle.history.specs.History.{Transaction, Cell, transactions, isCommitted, among, uses, settles, Settled, Law, In}
-use Rattle.history.specs.Shortcuts.{Shortcuts-break, one, youngestOnly, loweredTread, lateWrite, equalValues}
+use Rattle.history.specs.History.{Transaction, Cell, transactions, among, settles, Settled}
+use Rattle.history.specs.Shortcuts.{Shortcuts-break, lateWrite}
 
 pub shortcuts-break : Shortcuts-break
 shortcuts-break = record {

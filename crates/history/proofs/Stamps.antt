@@ -1,7 +1,7 @@
 -- Every stamp that a run gives is new.
-use mathlib.Core.Path.{_≡_, refl, sym, ap, subst, _∙_}
+use mathlib.Core.Path.{_≡_, refl, sym, ap, subst}
 use mathlib.Core.Bool.{Bool, true, false, cond}
-use mathlib.Core.List.{List, [], _∷_}
+use mathlib.Core.List.{List, _∷_}
 use mathlib.Core.Logic.{_⊎_, inl, inr}
 use Prim.Native.Nat.{ℕ, _<_, _≤_, _+_, _*_, _/_, _%_}
 use native.Mathlib.Omega.{arith}
@@ -9,7 +9,7 @@ use lib.ListN.{getD}
 use Rattle.std.specs.declared.option.Option.{Option}
 use Rattle.std.specs.declared.option.Option.the-variants.{Some, None}
 use Rattle.std.specs.declared.result.Result.{Result}
-use Rattle.std.specs.declared.result.Result.the-variants.{Ok, Err}
+use Rattle.std.specs.declared.result.Result.the-variants.{Ok}
 use Rattle.store.specs.declared.Version.{Version}
 use Rattle.service.specs.declared.refusals.Refusal.{Refusal}
 use Rattle.service.specs.declared.calls.Call.{Call}
@@ -21,7 +21,7 @@ use Rattle.service.specs.declared.tools.Phase.the-variants.{Committed, Aborting
 use Rattle.service.specs.declared.tools.Stand.the-variants.{Settled}
 use Rattle.service.specs.Refusals.{refusal, rejects}
 use Rattle.service.specs.Entries.{enter, stood, anyHeld}
-use Rattle.service.specs.Service.{Seat, State, seat, fresh, entry, largest, toolOf, rules, counter, answer, phased, entered, rested, isEmpty, next, nextSeat, reseat, outcome, step}
+use Rattle.service.specs.Service.{Seat, State, seat, fresh, entry, largest, toolOf, rules, answer, phased, entered, rested, isEmpty, next, nextSeat, reseat, outcome, step}
 use Rattle.service.specs.Sound.{Sound}
 use Rattle.service.proofs.Rules.{clear, tool-below, rejected}
 use Rattle.service.proofs.Seats.{SeatCases, seat-cases}

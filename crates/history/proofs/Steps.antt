@@ -1,13 +1,13 @@
 -- Each accepted call keeps the cards' invariant and its link to the history.
 use mathlib.Core.Path.{_≡_, refl, sym, ap, subst, _∙_}
 use mathlib.Core.Bool.{Bool, true, false, cond, not, _||_}
-use mathlib.Core.List.{List, [], _∷_}
+use mathlib.Core.List.{List, _∷_}
 use mathlib.Core.Logic.{_⊎_, inl, inr}
 use Prim.Native.Nat.{ℕ, _<_, _+_, _*_}
 use native.Mathlib.Omega.{arith}
 use lib.Dec.{leb, eqb}
 use lib.ListN.{length}
-use Rattle.std.proofs.shelf.Tests.{cases-eq, both-ways, eq-eqb, ne-eqb, leb-false, not-false, or-cases}
+use Rattle.std.proofs.shelf.Tests.{both-ways, eq-eqb, ne-eqb, leb-false, not-false, or-cases}
 use Rattle.std.specs.declared.option.Option.the-variants.{Some}
 use Rattle.store.specs.declared.Version.{Version}
 use Rattle.service.specs.declared.calls.Call.{Call}
@@ -25,8 +25,8 @@ use Rattle.service.proofs.Phases.{clash, is-true, stamped-at}
 use Rattle.service.proofs.Entries.{found, missing, find-item, enter-cases}
 use Rattle.service.proofs.Rules.{Clear, tool-below}
 use Rattle.service.proofs.Seats.{closedAt}
-use Rattle.history.specs.History.{Accepted, Transaction, Kind, Other, kind, add, join, isCommitted, stampOf, among, settles}
-use Rattle.history.proofs.Cards.{Card, Ghost, Core}
+use Rattle.history.specs.History.{Accepted, Transaction, Other, kind, add, join, isCommitted, stampOf, among, settles}
+use Rattle.history.proofs.Cards.{Ghost, Core}
 use Rattle.history.proofs.Moves.{rebase, rebase-other, begin-core, abort-core, close-core, write-core, read-new, read-old, seenNow}
 use Rattle.history.proofs.Certify.{certify-core}
 use Rattle.history.proofs.Commit.{dealt, commit-core}

@@ -1,9 +1,9 @@
 -- Every run keeps the invariants, and so the law holds.
 use mathlib.Core.Path.{_≡_, refl, sym, ap, subst}
 use mathlib.Core.Bool.{Bool, true, false, cond}
-use mathlib.Core.List.{List, [], _∷_}
-use mathlib.Core.Logic.{_⊎_, inl, inr}
-use Prim.Native.Nat.{ℕ, _<_, _/_}
+use mathlib.Core.List.{List, []}
+use mathlib.Core.Logic.{inl, inr}
+use Prim.Native.Nat.{ℕ, _/_}
 use native.Mathlib.Omega.{arith}
 use Rattle.std.specs.declared.option.Option.{Option}
 use Rattle.std.specs.declared.option.Option.the-variants.{Some, None}
@@ -21,9 +21,9 @@ use Rattle.service.proofs.Phases.{clash}
 use Rattle.service.proofs.Entries.{no-find}
 use Rattle.service.proofs.Rules.{clear, rejected}
 use Rattle.service.proofs.Sound.{at-start, sound-start, sound-step}
-use Rattle.history.specs.History.{History, Transaction, counted, transactions, Law}
+use Rattle.history.specs.History.{History, Transaction, counted, transactions}
 use Rattle.history.specs.Runs.{Run, started, called, Serial-order}
-use Rattle.history.proofs.Cards.{Card, Ghost, SeatOk, HeldBy, Core}
+use Rattle.history.proofs.Cards.{Ghost, SeatOk, HeldBy, Core}
 use Rattle.history.proofs.Moves.{bare-ok, fail-core}
 use Rattle.history.proofs.Link.{Link, link-fail}
 use Rattle.history.proofs.Steps.{kept}
@@ -47,7 +47,7 @@ start-core vs = record {
   apart = tt;
 }
   where
-    nobody : (n i : ℕ) (e : Entry) → HeldBy (start vs) [] n i e → ⊥
+    nobody : (n i : ℕ) (e : Entry) → HeldBy (start vs .seats) [] n i e → ⊥
     nobody n i e (inl (c, m, q, f)) = m
     nobody n i e (inr (t, h, r)) = clash (seat (start vs) t .phase) Idle Closed (ap (λ (x : Seat). x .phase) (at-start vs t h)) (r .0) refl
 

@@ -3,14 +3,13 @@ use mathlib.Core.Path.{_≡_, refl, sym, ap, subst, _∙_}
 use mathlib.Core.Bool.{Bool, true, false, cond, not, _&&_, _||_}
 use mathlib.Core.List.{List, [], _∷_}
 use mathlib.Core.Logic.{_⊎_, inl, inr}
-use Prim.Native.Nat.{ℕ, suc, _+_, _*_, _/_, _%_, _<_, _≤_}
+use Prim.Native.Nat.{ℕ, _+_, _/_, _%_, _<_, _≤_}
 use native.Mathlib.Omega.{arith}
 use lib.Dec.{leb}
-use lib.ListN.{length, getD, set, replicate, length-set, getD-replicate}
+use lib.ListN.{length, getD, set, length-set, getD-replicate}
 use Rattle.std.proofs.shelf.Tests.{both-ways, not-false, or-cases}
 use Rattle.std.specs.declared.option.Option.{Option}
 use Rattle.std.specs.declared.option.Option.the-variants.{Some, None}
-use Rattle.std.specs.Options.{isSome}
 use Rattle.store.specs.declared.Version.{Version}
 use Rattle.queue.specs.Tokens.{Tells, place, remove, has, ascending}
 use Rattle.queue.proofs.Contents.{length-place, length-remove, has-placed, has-new, has-left}
@@ -21,18 +20,18 @@ use Rattle.service.specs.declared.calls.Call.the-variants.{Begin, Read, Write,
 use Rattle.service.specs.declared.tools.Entry.{Entry}
 use Rattle.service.specs.declared.tools.Phase.{Phase}
 use Rattle.service.specs.declared.tools.Phase.the-variants.{Idle, Open, Closed, Failed, Committed, Aborting}
-use Rattle.service.specs.declared.tools.Stand.the-variants.{Held, Settled}
+use Rattle.service.specs.declared.tools.Stand.the-variants.{Settled}
 use Rattle.service.specs.declared.tokens.ReadToken.{ReadToken}
 use Rattle.service.specs.declared.tokens.WriteToken.{WriteToken}
 use Rattle.service.specs.Refusals.{refusal, rejects}
 use Rattle.service.specs.Entries.{isHeld, find, enter, readFrom, writtenTo, stood, anyHeld}
-use Rattle.service.specs.Service.{Seat, State, readTells, writeTells, fresh, seat, version, entry, absent, is, toolOf, counter, allowed, rules, phased, entered, rested, isEmpty, unlessHeld, next, nextVersions, nextReads, nextWrites, nextSeat, reseat, outcome, step, largest, start}
+use Rattle.service.specs.Service.{Seat, State, readTells, writeTells, fresh, seat, version, entry, absent, is, toolOf, counter, rules, phased, entered, rested, isEmpty, unlessHeld, next, nextVersions, nextReads, nextWrites, nextSeat, reseat, outcome, step, largest, start}
 use Rattle.service.specs.Sound.{Stamped, isRead, isWritten, held, total, SeatSound, Sound}
 use Rattle.service.proofs.Phases.{is-true, stamped-at}
 use Rattle.service.proofs.Entries.{found, entry-item, find-item, calm-entry}
 use Rattle.service.proofs.Rules.{Clear, clear, tool-below, rejected}
 use Rattle.service.proofs.Room.{held-calm, total-le, room-kept, room-more, room-less, room-left}
-use Rattle.service.proofs.Seats.{SeatCases, seat-cases, closedAt, bare-seat, rested-seat, small-enter, touched-seat, closed-seat, phased-seat, unless-held-seat, held-stamped, requeued-seat, certified-seat, settled-seat}
+use Rattle.service.proofs.Seats.{SeatCases, seat-cases, closedAt, bare-seat, rested-seat, small-enter, touched-seat, closed-seat, phased-seat, unless-held-seat, requeued-seat, certified-seat, settled-seat}
 
 pub at-start : (vs : List Version) (t : ℕ) → t < 16 → seat (start vs) t ≡ fresh (largest vs / 16)
 at-start vs t h = getD-replicate 16 t (fresh (largest vs / 16)) (fresh 0) h
