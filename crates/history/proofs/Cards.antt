@@ -15,7 +15,7 @@ use Rattle.service.specs.Entries.{isHeld, find, stood}
 use Rattle.service.specs.Service.{Seat, State, seat, version, fresh, largest}
 use Rattle.service.specs.Sound.{Stamped, Sound}
 use Rattle.service.proofs.Seats.{SeatCases, seat-cases}
-use Rattle.history.specs.History.{In, cells}
+use Rattle.history.specs.Serial.{In, cells}
 use Rattle.history.proofs.Order.{cell}
 
 -- a committed transaction: its entries as they were committed, and the values that it first read
@@ -65,7 +65,7 @@ SeatHolds x st i e = (x .phase ≡ Closed) × (x .stamp ≡ st) × (find i (x .e
 abbrev pub seatAt : List Seat → ℕ → Seat
 seatAt xs t = getD xs t (fresh 0)
 
--- a committed transaction, or one that may still commit, holds e for item i under the stamp st
+-- e is held for item i under the stamp st, by a card or by a closed transaction
 abbrev pub HeldBy : List Seat → List Card → ℕ → ℕ → Entry → Type 0
 HeldBy xs C st i e = CardHolds C st i e ⊎ ((t : ℕ) × (t < 16) × SeatHolds (seatAt xs t) st i e)
 

@@ -1,4 +1,4 @@
--- Certify: an honoured entry gets its tokens, and falls between no reader and what it read.
+-- A certified entry leaves no write between a reader and the version that it read.
 use mathlib.Core.Path.{_≡_, refl, sym, ap, subst, _∙_}
 use mathlib.Core.Bool.{Bool, true, false, not, _&&_}
 use mathlib.Core.List.{List}
@@ -93,7 +93,7 @@ module _ (vs : List Version) (s : State) (g : Ghost) (k : Core vs s g) (z : Soun
       older c j f w d se (inl (p, q)) = let a = read-facts w (seen-of f w q se) in omega arith
       older c j f w d se (inr (p, q)) = ok .older c j f w q d se
 
-  -- held before, or now
+  -- what is held now was held, or is the certified entry
   abbrev Now : ℕ → ℕ → Entry → Type 0
   Now n j f = (n ≡ st) × (j ≡ i) × (stood e Held ≡ f)
 
@@ -109,7 +109,7 @@ module _ (vs : List Version) (s : State) (g : Ghost) (k : Core vs s g) (z : Soun
       go (inl (p, q)) = let y′ : SeatHolds x n j f = subst (λ (a : Seat). SeatHolds a n j f) q y in mine y′ (was j f (y′ .2))
       go (inr (p, q)) = inl (inr (u, h, subst (λ (a : Seat). SeatHolds a n j f) q y))
 
-  -- a held write stands in the queue, or is at or below twrite; and likewise a held read
+  -- each held write has its token or is covered by twrite, and each held read by tread
   covered-w : (n : ℕ) (f : Entry) → HeldBy (s .seats) (g .cards) n i f → f .written ≡ true → (has writeTells i n (s .writes) ≡ true) ⊎ (n ≤ tw)
   covered-w n f (inr (u, h, (a, b, c, d))) wr = inl (subst (λ (m : ℕ). has writeTells i m (s .writes) ≡ true) b (z .seats u h .write i f c d wr))
   covered-w n f (inl (c, m, q, fc)) wr = go (k .cover c i f m fc)
@@ -128,7 +128,7 @@ module _ (vs : List Version) (s : State) (g : Ghost) (k : Core vs s g) (z : Soun
           (z .seats (c .tool) (k .card-stamp c m .0) .read i h fh d (is-some (h .seen) w (ap (λ (y : Entry). y .seen) ch ∙ se))))
       go (inr y) = inr (let a = y .0 w se in omega arith)
 
-  -- the new read has no held write between
+  -- no held write lies below the certified read and above what it read
   new-read : (w n : ℕ) (f : Entry) → e .seen ≡ Some w → HeldBy (s .seats) (g .cards) n i f → f .written ≡ true → w < n → n < st → ⊥
   new-read w n f se h wr a b = go (covered-w n f h wr)
     where
@@ -139,7 +139,7 @@ module _ (vs : List Version) (s : State) (g : Ghost) (k : Core vs s g) (z : Soun
       go (inl y) = none-between writeTells i tw st n (s .writes) (fs .2) y (let q = fs .0 in omega arith) b
       go (inr y) = let q = fs .0 in omega arith
 
-  -- the new write is above every held reader
+  -- no held reader lies above the certified write
   new-write : (w n : ℕ) (f : Entry) → e .written ≡ true → HeldBy (s .seats) (g .cards) n i f → f .seen ≡ Some w → st < n → ⊥
   new-write w n f wr h se b = go (covered-r n w f h se)
     where

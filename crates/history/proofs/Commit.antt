@@ -1,4 +1,4 @@
--- Commit: the closed tool's entries become a card.
+-- A commit deals a card.
 use mathlib.Core.Path.{_≡_, refl, sym, ap, subst, _∙_}
 use mathlib.Core.Bool.{Bool, true, false, cond}
 use mathlib.Core.List.{List, [], _∷_}
@@ -17,7 +17,7 @@ use Rattle.service.specs.Sound.{Sound}
 use Rattle.service.proofs.Phases.{clash, stamped-at}
 use Rattle.service.proofs.Entries.{no-find, all-held}
 use Rattle.service.proofs.Seats.{SeatCases, seat-cases}
-use Rattle.history.specs.History.{In}
+use Rattle.history.specs.Serial.{In}
 use Rattle.history.proofs.Cards.{Card, Ghost, Source, SeatOk, Core, Stands, Done, seatAt, HeldBy, SeatHolds}
 use Rattle.history.proofs.Moves.{rested-ok}
 

@@ -16,7 +16,9 @@ use Rattle.service.specs.Entries.{find}
 use Rattle.service.specs.Service.{State, seat, version, largest}
 use Rattle.service.proofs.Phases.{clash}
 use Rattle.service.proofs.Entries.{no-find, same-some}
-use Rattle.history.specs.History.{Transaction, Accepted, In, Cell, Cells, cells, stampOf, among, settles, ordered, serial, AllRight, Settled}
+use Rattle.history.specs.History.{Accepted, among, settles}
+use Rattle.history.specs.Transactions.{Transaction, stampOf, ordered}
+use Rattle.history.specs.Serial.{In, Cell, Cells, cells, serial, AllRight, Settled}
 use Rattle.history.proofs.Order.{cell, Keeps, Leaves, Wrote, From, Strict, final, Reader, all-right}
 use Rattle.history.proofs.Cards.{Card, Ghost, Source, Core, Stands, Done}
 use Rattle.history.proofs.Transactions.{latest-in, in-ordered, ordered-in, strict-ordered}
@@ -53,7 +55,7 @@ module _ (vs : List Version) (s : State) (g : Ghost) (ts : List Transaction) (k 
         λ n. r .3 .1 .writes i e f wr (stampOf (r .0)) n ∙ ap (λ (z : ℕ). cell z (stampOf (r .0))) cu,
       )
 
-  -- a writer has a card with a written entry
+  -- the card of a transaction that wrote the item
   abbrev Written : Transaction → ℕ → Type 0
   Written y i = (c : Card) × In c (g .cards) × (stampOf y ≡ c .stamp) × (e : Entry) × (find i (c .entries) ≡ Some e) × (e .written ≡ true)
 

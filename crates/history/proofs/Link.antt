@@ -15,7 +15,9 @@ use Rattle.service.specs.Service.{Seat, State, seat, fresh, toolOf, phased, res
 use Rattle.service.specs.Sound.{Stamped, Sound}
 use Rattle.service.proofs.Phases.{clash, stamped-at}
 use Rattle.service.proofs.Seats.{SeatCases, seat-cases}
-use Rattle.history.specs.History.{Accepted, Transaction, join, In, isCommitted, stampOf, among, settles}
+use Rattle.history.specs.History.{Accepted, among, settles}
+use Rattle.history.specs.Transactions.{Transaction, join, isCommitted, stampOf}
+use Rattle.history.specs.Serial.{In}
 use Rattle.history.proofs.Cards.{Card, Ghost, seatAt}
 use Rattle.history.proofs.Tied.{Tied, Neutral, tied-none}
 use Rattle.history.proofs.Transactions.{latest, extended, latest-in, in-join, in-new, in-old, latest-join, latest-other, Apart, apart-join}
@@ -44,7 +46,7 @@ pub record Linkage (xs : List Seat) (g : Ghost) (ts : List Transaction) : Type 0
 abbrev pub Link : State → Ghost → List Transaction → Type 0
 Link s g ts = Linkage (s .seats) g ts
 
--- an accepted call that is no begin
+-- a call joins its tool's transaction
 module _ (s s′ : State) (g : Ghost) (b : ℕ → ℕ → ℕ) (ts : List Transaction) (k : Link s g ts) (z : Sound s) (e : Accepted) (y : Transaction) (x : Seat)
     (ly : latest (toolOf (e .0)) ts ≡ Some y) (lt : toolOf (e .0) < 16) (tl : s′ .seats ≡ set (s .seats) (toolOf (e .0)) x)
     (bases : (u : ℕ) → (u ≡ toolOf (e .0) → ⊥) → b u ≡ g .base u)
@@ -114,7 +116,7 @@ module _ (s : State) (g : Ghost) (ts : List Transaction) (k : Link s g ts) (z : 
   cases : (x : Seat) (u : ℕ) → SeatCases (s .seats) t x u
   cases x u = seat-cases (s .seats) t x (let a = z .sixteen in omega arith) u
 
-  -- begin
+  -- a transaction begins
   abbrev born : Transaction
   born = record { tool = t; calls = [] }
 

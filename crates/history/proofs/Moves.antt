@@ -21,7 +21,7 @@ use Rattle.service.specs.Sound.{Stamped, Sound}
 use Rattle.service.proofs.Phases.{clash, stamped-at}
 use Rattle.service.proofs.Entries.{no-find, entry-item, enter-cases, any-held, calm-entry, calm-enter}
 use Rattle.service.proofs.Seats.{closedAt}
-use Rattle.history.specs.History.{In}
+use Rattle.history.specs.Serial.{In}
 use Rattle.history.proofs.Cards.{Card, Ghost, Source, SeatOk, Core, seat-core, same-gap}
 
 -- a value first read is noted
@@ -55,7 +55,7 @@ module _ (vs : List Version) (C : List Card) (b : ℕ → ℕ) (t : ℕ) (x : Se
       bare : (i : ℕ) (e : Entry) → find i (x .entries) ≡ Some e → isHeld (e .stand) ≡ true → ⊥
       bare i e f h = both-ways (anyHeld (x .entries)) calm (any-held i e (x .entries) f h)
 
-  -- the phase alone is changed, to one from which nothing is committed
+  -- the phase alone is changed, and will not commit
   pub phased-ok : (p : Phase) → SeatOk vs C b t x → Stamped (x .phase) → is p Closed ≡ false → is p Committed ≡ false → SeatOk vs C b t (phased x p)
   phased-ok p ok l nc nd = record {
     last = ok .last;

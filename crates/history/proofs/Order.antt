@@ -1,4 +1,4 @@
--- The serial run of a strictly ordered list: an item holds what its largest writer wrote.
+-- Serial runs in strict order: the last writer of an item is the one with the largest stamp.
 use mathlib.Core.Path.{_≡_, refl, sym, ap, subst, _∙_}
 use mathlib.Core.Bool.{Bool, true, false, cond}
 use mathlib.Core.List.{List, [], _∷_}
@@ -8,7 +8,9 @@ use native.Mathlib.Omega.{arith}
 use lib.Dec.{eqb}
 use Rattle.std.specs.declared.option.Option.{Option}
 use Rattle.std.specs.declared.option.Option.the-variants.{Some}
-use Rattle.history.specs.History.{Transaction, Accepted, Kind, Begins, Commits, Other, Reads, Settles, Writes, kind, Cell, Cells, In, stampOf, act, acts, serial, Rights, AllRight}
+use Rattle.history.specs.History.{Accepted, Kind, Begins, Commits, Other, Reads, Settles, Writes, kind}
+use Rattle.history.specs.Transactions.{Transaction, stampOf}
+use Rattle.history.specs.Serial.{Cell, Cells, In, act, acts, serial, Rights, AllRight}
 
 abbrev pub cell : ℕ → ℕ → Cell
 cell v w = record { value = v; stamp = w }
@@ -45,7 +47,7 @@ abbrev pub Strict : List Transaction → Type 0
 Strict [] = Unit
 Strict (x ∷ xs) = ((y : Transaction) → In y xs → stampOf y < stampOf x) × Strict xs
 
--- the value v stamped w of item i is the start's, or one of the transactions wrote it
+-- where the value v with the stamp w of item i comes from: the start, or a transaction
 abbrev pub From : Cells → List Transaction → ℕ → ℕ → ℕ → Type 0
 From m xs i w v = (m i ≡ cell v w) ⊎ ((y : Transaction) × In y xs × (stampOf y ≡ w) × Wrote y i v)
 
@@ -53,7 +55,7 @@ module _ (m : Cells) where
   abbrev pub Above : List Transaction → Type 0
   Above xs = (i : ℕ) (x : Transaction) → In x xs → m i .stamp < stampOf x
 
-  -- one more transaction, the largest, on top
+  -- the step to one transaction more
   final-more : (x : Transaction) (xs : List Transaction) (i w v : ℕ) → ((y : Transaction) → In y xs → stampOf y < stampOf x) → Above (x ∷ xs)
       → ((u : ℕ) → Wrote x i u → stampOf x ≤ w) → (From m xs i w v → serial m xs i ≡ cell v w)
       → Keeps (stampOf x) (x .calls) i ⊎ ((u : ℕ) × Wrote x i u) → From m (x ∷ xs) i w v → serial m (x ∷ xs) i ≡ cell v w
@@ -95,7 +97,7 @@ module _ (m : Cells) where
     pub source : (i w : ℕ) → seen i ≡ Some w → From m xs i w (base i)
     pub gap : (i w : ℕ) → seen i ≡ Some w → (y : Transaction) (u : ℕ) → In y xs → Wrote y i u → w < stampOf y → stampOf y < stampOf x → ⊥
 
-  -- a source older than the top of the list is below it
+  -- what is older than the latest transaction does not come from it
   below : (x : Transaction) (xs : List Transaction) (i w v : ℕ) → w < stampOf x → From m (x ∷ xs) i w v → From m xs i w v
   below x xs i w v lt (inl e) = inl e
   below x xs i w v lt (inr (y, inl e, k, yr)) = let a : stampOf y ≡ stampOf x = ap stampOf e in absurd (omega arith)

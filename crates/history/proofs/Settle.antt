@@ -1,4 +1,4 @@
--- Settle: one entry's tokens go, and a committed one's version is raised.
+-- A settlement takes an entry from its token to its version.
 use mathlib.Core.Path.{_≡_, refl, sym, ap, subst, _∙_}
 use mathlib.Core.Bool.{Bool, true, false, cond, _&&_}
 use mathlib.Core.List.{List}
@@ -125,7 +125,7 @@ module _ (vs : List Version) (s : State) (g : Ghost) (k : Core vs s g) (z : Soun
       go (inl (p, q)) = absurd (not-closed (anyHeld es) (subst (λ (y : Seat). y .phase ≡ Closed) q (r .0)))
       go (inr (p, q)) = inr (u, h, subst (λ (y : Seat). SeatHolds y n j f) q r)
 
-  -- the versions
+  -- the versions after it
   abbrev none-yet : Version
   none-yet = record { value = 0; twrite = 0; tread = 0 }
 
@@ -148,7 +148,7 @@ module _ (vs : List Version) (s : State) (g : Ghost) (k : Core vs s g) (z : Soun
           )))
       go (inr ne) = subst (λ (v : Version). Done v n f) (sym (getD-set-other (s .versions) i j new none-yet ne)) h
 
-  -- the entry itself is settled now
+  -- its own entry is covered by the version
   mine : seat s t .phase ≡ Committed → (f : Entry) → core e ≡ core f → Done (version (s′ .versions) i) (seat s t .stamp) f
   mine ph f cf = rw (ap (λ (p : Phase). is p Committed) ph) (subst (λ (v : Version). Done v (seat s t .stamp) f) (sym at-i) (
     λ w se. reach-r (isSome (e .seen)) (old .tread) (seat s t .stamp) (is-some (e .seen) w (ap (λ (y : Entry). y .seen) cf ∙ se)),

@@ -3,7 +3,9 @@ use mathlib.Core.Path.{_≡_, ap}
 use mathlib.Core.Logic.{inl, inr}
 use Prim.Native.Nat.{ℕ}
 use native.Mathlib.Omega.{arith}
-use Rattle.history.specs.History.{Transaction, Cell, transactions, among, settles, Settled}
+use Rattle.history.specs.History.{among, settles}
+use Rattle.history.specs.Transactions.{Transaction, transactions}
+use Rattle.history.specs.Serial.{Cell, Settled}
 use Rattle.history.specs.Shortcuts.{Shortcuts-break, lateWrite}
 
 pub shortcuts-break : Shortcuts-break

@@ -26,7 +26,8 @@ use Rattle.service.specs.Sound.{Sound}
 use Rattle.service.proofs.Rules.{clear, tool-below, rejected}
 use Rattle.service.proofs.Seats.{SeatCases, seat-cases}
 use Rattle.service.proofs.Sound.{at-start}
-use Rattle.history.specs.History.{History, In}
+use Rattle.history.specs.History.{History}
+use Rattle.history.specs.Serial.{In}
 use Rattle.history.specs.Runs.{Run, started, called, stampOr, stamps, Distinct, Stamps-fresh}
 use Rattle.history.proofs.Final.{stamps-le}
 use Rattle.history.proofs.Whole.{run-sound}

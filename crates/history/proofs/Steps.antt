@@ -25,7 +25,8 @@ use Rattle.service.proofs.Phases.{clash, is-true, stamped-at}
 use Rattle.service.proofs.Entries.{found, missing, find-item, enter-cases}
 use Rattle.service.proofs.Rules.{Clear, tool-below}
 use Rattle.service.proofs.Seats.{closedAt}
-use Rattle.history.specs.History.{Accepted, Transaction, Other, kind, add, join, isCommitted, stampOf, among, settles}
+use Rattle.history.specs.History.{Accepted, Other, kind, among, settles}
+use Rattle.history.specs.Transactions.{Transaction, add, join, isCommitted, stampOf}
 use Rattle.history.proofs.Cards.{Ghost, Core}
 use Rattle.history.proofs.Moves.{rebase, rebase-other, begin-core, abort-core, close-core, write-core, read-new, read-old, seenNow}
 use Rattle.history.proofs.Certify.{certify-core}
@@ -57,7 +58,7 @@ module _ (vs : List Version) (s : State) (g : Ghost) (ts : List Transaction) (k 
       uncommitted : isCommitted (cur .0) ≡ true → ⊥
       uncommitted h = both-ways (isCommitted (cur .0)) (cur .2 .fresh op) h
 
-      -- an open tool after a read or write
+      -- after a read or a write the tool is still open
       opened : (e : Accepted) (es : List Entry) (b : ℕ → ℕ) → Tied (e ∷ cur .0 .calls) es b → ((i : ℕ) → settles i (kind (e .0)) ≡ false) → isCommitted (extended e (cur .0)) ≡ isCommitted (cur .0)
           → Linked (entered (seat s t) es) (extended e (cur .0)) b
       opened e es b td st cm = record {
@@ -250,7 +251,7 @@ module _ (vs : List Version) (s : State) (g : Ghost) (ts : List Transaction) (k 
   in-range : (i : ℕ) → leb (length (s .versions)) i ≡ false → i < length vs
   in-range i h = let a = leb-false (length (s .versions)) i h in let b = k .count in omega arith
 
-  -- all accepted calls
+  -- call by call
   pub kept : (c : Call) → Clear (rules s c) → Kept (next s (seat s (toolOf c)) c) (add (c, answer s (seat s (toolOf c)) c) ts)
   kept (Begin t) r = begin-kept t (tool-below t (r .0)) (in-phase t Idle (r .1 .0))
   kept (Read t i) r = read-kept t (tool-below t (r .0)) (in-phase t Open (r .1 .0)) i (in-range i (r .1 .1 .0)) (absent (seat s t) i) refl

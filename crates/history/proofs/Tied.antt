@@ -1,4 +1,4 @@
--- A transaction's calls against its entries.
+-- The entries of a transaction say what its calls did.
 use mathlib.Core.Path.{_≡_, refl, sym, ap, subst, _∙_}
 use mathlib.Core.Bool.{Bool, true, false, cond, _||_}
 use mathlib.Core.List.{List, [], _∷_}
@@ -17,7 +17,8 @@ use Rattle.service.specs.declared.tools.Entry.{Entry}
 use Rattle.service.specs.declared.tools.Stand.{Stand}
 use Rattle.service.specs.Entries.{find, enter, orBlank, readFrom, writtenTo, stood}
 use Rattle.service.proofs.Entries.{no-find, same-some, find-item, entry-item, find-same, find-other, enter-cases}
-use Rattle.history.specs.History.{Accepted, Kind, Begins, Commits, Other, Reads, Settles, Writes, kind, uses, among, Cell, Cells, act, acts, Right, Rights}
+use Rattle.history.specs.History.{Accepted, Kind, Begins, Commits, Other, Reads, Settles, Writes, kind, uses, among}
+use Rattle.history.specs.Serial.{Cell, Cells, act, acts, Right, Rights}
 use Rattle.history.proofs.Order.{cell, Leaves, Keeps}
 use Rattle.history.proofs.Cards.{core}
 
@@ -39,7 +40,7 @@ tied-none b = record {
   used = λ i e f. absurd (no-find e f);
 }
 
--- calls that neither read nor write
+-- the kinds that touch no value
 abbrev pub Silent : Kind → Type 0
 Silent Begins = Unit
 Silent Commits = Unit
@@ -76,7 +77,7 @@ silent-neutral c a q h es b r = record {
   used = λ i e f. or-right (uses i (kind c)) (among (uses i) h) (r .used i e f);
 }
 
--- an entry's stand is changed
+-- a token comes or goes
 module _ (h : List Accepted) (es : List Entry) (b : ℕ → ℕ) (r : Tied h es b) (i : ℕ) (e : Entry) (fd : find i es ≡ Some e) (a : Stand) where
   at : e .item ≡ i
   at = find-item i e es fd
@@ -112,7 +113,7 @@ module _ (h : List Accepted) (es : List Entry) (b : ℕ → ℕ) (r : Tied h es 
 abbrev Agree : List Entry → (ℕ → ℕ) → Cells → Type 0
 Agree es b n = (i w : ℕ) (e : Entry) → find i es ≡ Some e → e .seen ≡ Some w → n i .value ≡ b i
 
--- a read of an entry
+-- a value read again
 value-of : (h : List Accepted) (es : List Entry) (b : ℕ → ℕ) → Tied h es b → (i : ℕ) (e : Entry) → find i es ≡ Some e → (s : ℕ) (n : Cells)
     → Agree es b n → e .value ≡ acts s h n i .value
 value-of h es b r i e fd s n c = go (e .written) refl
@@ -133,7 +134,7 @@ tied-read h es b r t i e fd = record {
   used = λ j f q. or-right (eqb j i) (among (uses j) h) (r .used j f q);
 }
 
--- a read from the store
+-- an item read for the first time
 module _ (h : List Accepted) (es : List Entry) (b b′ : ℕ → ℕ) (r : Tied h es b) (t i : ℕ) (v : Version) (none : find i es ≡ None)
     (bi : b′ i ≡ v .value) (bo : (j : ℕ) → (j ≡ i → ⊥) → b′ j ≡ b j) where
   abbrev new : Entry
@@ -172,7 +173,7 @@ module _ (h : List Accepted) (es : List Entry) (b b′ : ℕ → ℕ) (r : Tied 
       used j f (inl (p, q)) = or-left (eqb j i) (among (uses j) h) (eq-eqb j i p)
       used j f (inr (p, q)) = or-right (eqb j i) (among (uses j) h) (r .used j f q)
 
--- a write
+-- an item written
 module _ (h : List Accepted) (es : List Entry) (b : ℕ → ℕ) (r : Tied h es b) (t i v : ℕ) (a : Answer) where
   abbrev wrote-to : Entry
   wrote-to = writtenTo (orBlank i (find i es)) v

@@ -21,7 +21,8 @@ use Rattle.service.proofs.Phases.{clash}
 use Rattle.service.proofs.Entries.{no-find}
 use Rattle.service.proofs.Rules.{clear, rejected}
 use Rattle.service.proofs.Sound.{at-start, sound-start, sound-step}
-use Rattle.history.specs.History.{History, Transaction, counted, transactions}
+use Rattle.history.specs.History.{History}
+use Rattle.history.specs.Transactions.{Transaction, counted, transactions}
 use Rattle.history.specs.Runs.{Run, started, called, Serial-order}
 use Rattle.history.proofs.Cards.{Ghost, SeatOk, HeldBy, Core}
 use Rattle.history.proofs.Moves.{bare-ok, fail-core}

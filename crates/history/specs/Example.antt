@@ -7,7 +7,8 @@ use Rattle.service.specs.declared.refusals.Refusal.the-variants.{VersionChanged
 use Rattle.service.specs.declared.calls.Call.the-variants.{Begin, Read, Write, Close, Certify, Commit, Abort, Settle}
 use Rattle.service.specs.declared.calls.Answer.the-variants.{Done, Value, Stamp}
 use Rattle.service.specs.Service.{State}
-use Rattle.history.specs.History.{History, Law}
+use Rattle.history.specs.History.{History}
+use Rattle.history.specs.Serial.{Law}
 use Rattle.history.specs.Runs.{Run}
 
 abbrev pub before : List Version

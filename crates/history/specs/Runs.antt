@@ -13,7 +13,8 @@ use Rattle.service.specs.declared.calls.Answer.{Answer}
 use Rattle.service.specs.declared.calls.Answer.the-variants.{Done, Value, Stamp}
 use Rattle.service.specs.Refusals.{rejects}
 use Rattle.service.specs.Service.{State, Does, start, version}
-use Rattle.history.specs.History.{History, Law, In, kind, settles}
+use Rattle.history.specs.History.{History, kind, settles}
+use Rattle.history.specs.Serial.{Law, In}
 
 -- a history from the versions vs, and the state after it
 pub data Run (vs : List Version) : History → State → Type 0 where

@@ -7,7 +7,8 @@ use Rattle.store.specs.declared.Version.{Version}
 use Rattle.service.specs.declared.calls.Call.{Call}
 use Rattle.service.specs.declared.calls.Call.the-variants.{Begin, Read, Write, Close, Certify, Commit, Settle}
 use Rattle.service.specs.declared.calls.Answer.the-variants.{Done, Value, Stamp}
-use Rattle.history.specs.History.{Event, History, Law}
+use Rattle.history.specs.History.{Event, History}
+use Rattle.history.specs.Serial.{Law}
 
 abbrev pub one : ℕ → ℕ → ℕ → List Version
 one v w r = record { value = v; twrite = w; tread = r } ∷ []

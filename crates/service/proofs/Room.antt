@@ -1,4 +1,4 @@
--- No queue is ever full: a token stands for one entry of one tool, and 16 × 8 is 128.
+-- Room in the queues: 16 tools with 8 entries each have at most 128 tokens of a kind.
 use mathlib.Core.Path.{_≡_, refl, sym, ap, subst, _∙_}
 use mathlib.Core.Bool.{Bool, true, false, cond, _&&_}
 use mathlib.Core.List.{List, [], _∷_}
