@@ -1,6 +1,7 @@
 -- What refusals keep, and what settle alone changes.
 use mathlib.Core.Path.{_≡_, refl, sym, ap, subst, _∙_}
 use mathlib.Core.Bool.{Bool, true, false, cond}
+use mathlib.Core.List.{List}
 use Prim.Native.Nat.{ℕ}
 use native.Mathlib.Omega.{arith}
 use lib.ListN.{set}
@@ -18,7 +19,7 @@ use Rattle.service.specs.declared.calls.Answer.{Answer}
 use Rattle.service.specs.declared.tools.Phase.the-variants.{Committed, Failed}
 use Rattle.service.specs.Refusals.{refusal, rejects}
 use Rattle.service.specs.Entries.{settledVersion}
-use Rattle.service.specs.Service.{Seat, State, seat, version, entry, is, toolOf, rules, phased, reseat, nextVersions, outcome}
+use Rattle.service.specs.Service.{Seat, State, seat, version, entry, is, toolOf, rules, phased, reseat, nextVersions, outcome, step}
 use Rattle.service.proofs.Sound.{within}
 use Rattle.history.specs.History.{kind, settles}
 use Rattle.history.specs.Runs.{Queues-hold, Refusals-keep, Only-settle-writes}
@@ -41,7 +42,7 @@ refusals-keep s c r s′ d f = go (refusal (rules s c)) d
         let b : rejects n ≡ false = ap rejects m ∙ f in
         sym (ap (λ (p : Result Answer Refusal × State). p .1) q) ∙ rw b
 
--- over any seat: an accepted call
+-- an accepted call, over any seat
 next-versions : (s : State) (x : Seat) (c : Call) (i : ℕ) → settles i (kind c) ≡ false → version (nextVersions s x c) i ≡ version (s .versions) i
 next-versions s x (Begin t) i h = refl
 next-versions s x (Read t j) i h = refl
@@ -59,13 +60,32 @@ next-versions s x (Settle t j) i h = go (is (x .phase) Committed)
     go true = getD-set-other (s .versions) j i new (record { value = 0; twrite = 0; tread = 0 }) (eqb-false i j h)
     go false = refl
 
-pub only-settle-writes : Only-settle-writes
-only-settle-writes s c a s′ d i h = subst (λ (p : Result Answer Refusal × State). version (p .1 .versions) i ≡ version (s .versions) i) d (go (refusal (rules s c)))
-  where
-    kept : (b : Bool) → version (cond b (reseat s (toolOf c) (phased (seat s (toolOf c)) Failed)) s .versions) i ≡ version (s .versions) i
-    kept true = refl
-    kept false = refl
+settles-none : (s : State) (x : Seat) (c : Call) → ((i : ℕ) → settles i (kind c) ≡ false) → nextVersions s x c ≡ s .versions
+settles-none s x (Begin t) h = refl
+settles-none s x (Read t i) h = refl
+settles-none s x (Write t i v) h = refl
+settles-none s x (Close t k) h = refl
+settles-none s x (Certify t i) h = refl
+settles-none s x (Commit t) h = refl
+settles-none s x (Abort t) h = refl
+settles-none s x (Settle t i) h = absurd (eqb-false i i (h i) refl)
 
-    go : (o : Option Refusal) → version (outcome s (seat s (toolOf c)) c o .1 .versions) i ≡ version (s .versions) i
-    go None = next-versions s (seat s (toolOf c)) c i h
+-- what holds of the versions as they are and after an accepted call holds after any
+versions-after : (s : State) (c : Call) (P : List Version → Type 0) → P (s .versions) → P (nextVersions s (seat s (toolOf c)) c) → P (step s c .1 .versions)
+versions-after s c P same new = go (refusal (rules s c))
+  where
+    kept : (b : Bool) → P (cond b (reseat s (toolOf c) (phased (seat s (toolOf c)) Failed)) s .versions)
+    kept true = same
+    kept false = same
+
+    go : (o : Option Refusal) → P (outcome s (seat s (toolOf c)) c o .1 .versions)
+    go None = new
     go (Some r) = kept (rejects r)
+
+pub only-settle-writes : Only-settle-writes
+only-settle-writes s c a s′ d = (
+  λ h. subst (λ (p : Result Answer Refusal × State). p .1 .versions ≡ s .versions) d
+      (versions-after s c (λ vs. vs ≡ s .versions) refl (settles-none s (seat s (toolOf c)) c h)),
+  λ i h. subst (λ (p : Result Answer Refusal × State). version (p .1 .versions) i ≡ version (s .versions) i) d
+      (versions-after s c (λ vs. version vs i ≡ version (s .versions) i) refl (next-versions s (seat s (toolOf c)) c i h)),
+)

@@ -21,9 +21,11 @@ pub data Run (vs : List Version) : History → State → Type 0 where
   started : Run vs [] (start vs)
   called : {h : History} {s : State} (c : Call) (a : Result Answer Refusal) (s′ : State) → Run vs h s → Does s c a s′ → Run vs ((c, a) ∷ h) s′
 
+-- every run meets the law
 abbrev pub Serial-order : Type 0
 Serial-order = (vs : List Version) (h : History) (s : State) → Run vs h s → Law vs h (s .versions)
 
+-- no queue has more tokens than places
 abbrev pub Queues-hold : Type 0
 Queues-hold = (vs : List Version) (h : History) (s : State) → Run vs h s → (length (s .reads) ≤ 128) × (length (s .writes) ≤ 128)
 
@@ -31,10 +33,11 @@ Queues-hold = (vs : List Version) (h : History) (s : State) → Run vs h s → (
 abbrev pub Refusals-keep : Type 0
 Refusals-keep = (s : State) (c : Call) (r : Refusal) (s′ : State) → Does s c (Err r) s′ → rejects r ≡ false → s′ ≡ s
 
--- an item's version is changed by its settlement alone
+-- a call that settles nothing leaves the store as it was, and any other changes the item that it settles alone
 abbrev pub Only-settle-writes : Type 0
 Only-settle-writes = (s : State) (c : Call) (a : Result Answer Refusal) (s′ : State) → Does s c a s′
-    → (i : ℕ) → settles i (kind c) ≡ false → version (s′ .versions) i ≡ version (s .versions) i
+    → (((i : ℕ) → settles i (kind c) ≡ false) → s′ .versions ≡ s .versions)
+    × ((i : ℕ) → settles i (kind c) ≡ false → version (s′ .versions) i ≡ version (s .versions) i)
 
 -- the stamps that a history gave
 abbrev pub stampOr : Result Answer Refusal → List ℕ → List ℕ
