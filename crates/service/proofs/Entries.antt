@@ -1,6 +1,6 @@
 -- The entries of a transaction: what finding one tells, and what entering one changes.
 use mathlib.Core.Path.{_≡_, refl, sym, ap, subst, _∙_}
-use mathlib.Core.Bool.{Bool, true, false, cond, not, _&&_, _||_}
+use mathlib.Core.Bool.{Bool, true, false, cond, not, _||_}
 use mathlib.Core.List.{List, [], _∷_}
 use mathlib.Core.Logic.{_⊎_, inl, inr}
 use Prim.Native.Nat.{ℕ, suc, _≤_}
@@ -12,7 +12,7 @@ use Rattle.std.specs.declared.option.Option.{Option}
 use Rattle.std.specs.declared.option.Option.the-variants.{Some, None}
 use Rattle.std.specs.Options.{isSome}
 use Rattle.service.specs.declared.tools.Entry.{Entry}
-use Rattle.service.specs.Entries.{isHeld, find, enter, blank, orBlank, anyHeld, allHeld}
+use Rattle.service.specs.Entries.{isHeld, find, enter, orBlank, anyHeld, allHeld}
 
 pub no-find : (e : Entry) → _≡_ {A = Option Entry} None (Some e) → ⊥
 no-find e h = let z : _≡_ {A = ℕ} 0 1 = cc in omega arith

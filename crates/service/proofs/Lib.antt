@@ -1,7 +1,6 @@
 pub mod Phases
 pub mod Entries
 pub mod Rules
-pub mod Queued
 pub mod Room
 pub mod Seats
 pub mod Sound

@@ -1,15 +1,12 @@
--- Phases and stands told apart.
+-- Phases told apart.
 use mathlib.Core.Path.{_≡_, refl, sym, ap, subst, _∙_}
-use mathlib.Core.Bool.{Bool, true, false, cond}
+use mathlib.Core.Bool.{true, false, cond}
 use mathlib.Core.Logic.{_⊎_, inl, inr}
 use Prim.Native.Nat.{ℕ}
 use lib.Dec.{eqb}
 use Rattle.std.proofs.shelf.Tests.{eqb-true, eq-eqb, both-ways}
 use Rattle.service.specs.declared.tools.Phase.{Phase}
 use Rattle.service.specs.declared.tools.Phase.the-variants.{Idle, Open, Closed, Failed, Committed, Aborting}
-use Rattle.service.specs.declared.tools.Stand.{Stand}
-use Rattle.service.specs.declared.tools.Stand.the-variants.{Bare, Held, Settled}
-use Rattle.service.specs.Entries.{isHeld}
 use Rattle.service.specs.Service.{phaseNo, is}
 use Rattle.service.specs.Sound.{Stamped}
 
@@ -47,8 +44,3 @@ late Closed n = tt
 late Failed n = tt
 late Committed n = tt
 late Aborting n = tt
-
-pub is-held : (a : Stand) → isHeld a ≡ true → a ≡ Held
-is-held Bare h = absurd (both-ways false refl h)
-is-held Held h = refl
-is-held Settled h = absurd (both-ways false refl h)

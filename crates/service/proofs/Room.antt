@@ -1,6 +1,6 @@
--- No queue is ever full: a token stands for one entry of one tool, and 16 × 8 is 128.
+-- Room in the queues: 16 tools with 8 entries each have at most 128 tokens of a kind.
 use mathlib.Core.Path.{_≡_, refl, sym, ap, subst, _∙_}
-use mathlib.Core.Bool.{Bool, true, false, cond, not, _&&_, _||_}
+use mathlib.Core.Bool.{Bool, true, false, cond, _&&_}
 use mathlib.Core.List.{List, [], _∷_}
 use Prim.Native.Nat.{ℕ, zero, suc, _<_, _≤_, _+_, _*_}
 use native.Mathlib.Omega.{arith}
@@ -11,7 +11,7 @@ use Rattle.std.specs.declared.option.Option.the-variants.{Some}
 use Rattle.service.specs.declared.tools.Entry.{Entry}
 use Rattle.service.specs.declared.tools.Stand.the-variants.{Held, Settled}
 use Rattle.service.specs.Entries.{isHeld, find, enter, stood, anyHeld}
-use Rattle.service.specs.Service.{Seat, fresh, entered, unlessHeld, rested}
+use Rattle.service.specs.Service.{Seat, fresh}
 use Rattle.service.specs.Sound.{held, total}
 use Rattle.service.proofs.Entries.{no-find, same-some}
 

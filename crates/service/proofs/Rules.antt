@@ -1,7 +1,7 @@
 -- What an accepted call and a rejected certification tell of the tests.
-use mathlib.Core.Path.{_≡_, refl, sym, ap, subst, _∙_}
-use mathlib.Core.Bool.{Bool, true, false, cond, not, _&&_, _||_}
-use mathlib.Core.List.{List, [], _∷_}
+use mathlib.Core.Path.{_≡_, refl, sym, subst}
+use mathlib.Core.Bool.{Bool, true, false, cond, not}
+use mathlib.Core.List.{[], _∷_}
 use mathlib.Core.Logic.{_⊎_, inl, inr}
 use Prim.Native.Nat.{ℕ, _<_}
 use native.Mathlib.Omega.{arith}
@@ -38,10 +38,6 @@ clear (r ∷ rs) h = go (clear rs) (r .0) refl h
     go ih true e q = absurd (no-refusal (r .1) q)
     go ih false e q = (e, ih q)
 
-pub clear-refusal : (rs : Rules) → Clear rs → refusal rs ≡ None
-clear-refusal [] h = refl
-clear-refusal (r ∷ rs) h = rw (h .0) (clear-refusal rs (h .1))
-
 pub tool-below : (t : ℕ) → ltb 15 t ≡ false → t < 16
 tool-below t h = let a = ltb-false 15 t h in omega arith
 
@@ -75,14 +71,14 @@ rejected s c r h f = go (ltb 15 (toolOf c)) refl (not (allowed c (seat s (toolOf
     plain : (z : Refusal) → rejects z ≡ false → z ≡ r → ⊥
     plain z m q = both-ways (rejects r) (subst (λ (y : Refusal). rejects y ≡ false) q m) f
 
-    closed : (a : Bool) → allowed c (seat s (toolOf c) .phase) ≡ true → Mild (tests s (seat s (toolOf c)) c) ⊎ ((p : Phase) → allowed c p ≡ true → p ≡ Closed)
+    closed : allowed c (seat s (toolOf c) .phase) ≡ true → Mild (tests s (seat s (toolOf c)) c) ⊎ ((p : Phase) → allowed c p ≡ true → p ≡ Closed)
         → refusal (tests s (seat s (toolOf c)) c) ≡ Some r → seat s (toolOf c) .phase ≡ Closed
-    closed a al (inl m) q = absurd (both-ways (rejects r) (mild-refusal (tests s (seat s (toolOf c)) c) m r q) f)
-    closed a al (inr k) q = k (seat s (toolOf c) .phase) al
+    closed al (inl m) q = absurd (both-ways (rejects r) (mild-refusal (tests s (seat s (toolOf c)) c) m r q) f)
+    closed al (inr k) q = k (seat s (toolOf c) .phase) al
 
     go : (a : Bool) → ltb 15 (toolOf c) ≡ a → (b : Bool) → not (allowed c (seat s (toolOf c) .phase)) ≡ b
         → cond a (Some UnknownTool) (cond b (Some WrongState) (refusal (tests s (seat s (toolOf c)) c))) ≡ Some r
         → (toolOf c < 16) × (seat s (toolOf c) .phase ≡ Closed)
     go true p b q e = absurd (plain UnknownTool refl (same-refusal UnknownTool r e))
     go false p true q e = absurd (plain WrongState refl (same-refusal WrongState r e))
-    go false p false q e = (tool-below (toolOf c) p, closed true (not-false (allowed c (seat s (toolOf c) .phase)) q) (mild s (seat s (toolOf c)) c) e)
+    go false p false q e = (tool-below (toolOf c) p, closed (not-false (allowed c (seat s (toolOf c) .phase)) q) (mild s (seat s (toolOf c)) c) e)

@@ -1,7 +1,7 @@
 -- How a sound seat stays sound as its tool's transaction goes on.
 use mathlib.Core.Path.{_≡_, refl, sym, ap, subst, _∙_}
-use mathlib.Core.Bool.{Bool, true, false, cond, not, _&&_, _||_}
-use mathlib.Core.List.{List, [], _∷_}
+use mathlib.Core.Bool.{Bool, true, false, cond, _&&_}
+use mathlib.Core.List.{List}
 use mathlib.Core.Logic.{_⊎_, inl, inr}
 use Prim.Native.Nat.{ℕ, _+_, _*_, _%_, _<_, _≤_}
 use native.Mathlib.Omega.{arith}
@@ -10,11 +10,10 @@ use lib.ListN.{length, getD, set}
 use Rattle.std.proofs.shelf.Lists.{getD-set-same, getD-set-other}
 use Rattle.std.proofs.shelf.Tests.{both-ways, cases-eq, leb-false}
 use Rattle.std.specs.declared.option.Option.the-variants.{Some}
-use Rattle.std.specs.Options.{isSome}
 use Rattle.queue.specs.Tokens.{has}
 use Rattle.service.specs.declared.tools.Entry.{Entry}
 use Rattle.service.specs.declared.tools.Phase.{Phase}
-use Rattle.service.specs.declared.tools.Phase.the-variants.{Idle, Open, Closed}
+use Rattle.service.specs.declared.tools.Phase.the-variants.{Open, Closed}
 use Rattle.service.specs.declared.tools.Stand.the-variants.{Held, Settled}
 use Rattle.service.specs.declared.tokens.ReadToken.{ReadToken}
 use Rattle.service.specs.declared.tokens.WriteToken.{WriteToken}
@@ -22,7 +21,7 @@ use Rattle.service.specs.Entries.{isHeld, find, enter, stood, anyHeld}
 use Rattle.service.specs.Service.{Seat, fresh, readTells, writeTells, absent, entry, phased, entered, rested, unlessHeld}
 use Rattle.service.specs.Sound.{Stamped, isRead, isWritten, SeatSound}
 use Rattle.service.proofs.Phases.{not-early, late}
-use Rattle.service.proofs.Entries.{found, find-item, entry-item, enter-cases, any-held, calm-enter, length-enter, length-found}
+use Rattle.service.proofs.Entries.{found, find-item, enter-cases, any-held, calm-enter, length-enter, length-found}
 
 -- the seats after that of tool t is changed
 abbrev pub SeatCases : List Seat → ℕ → Seat → ℕ → Type 0

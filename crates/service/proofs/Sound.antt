@@ -3,35 +3,35 @@ use mathlib.Core.Path.{_≡_, refl, sym, ap, subst, _∙_}
 use mathlib.Core.Bool.{Bool, true, false, cond, not, _&&_, _||_}
 use mathlib.Core.List.{List, [], _∷_}
 use mathlib.Core.Logic.{_⊎_, inl, inr}
-use Prim.Native.Nat.{ℕ, suc, _+_, _*_, _/_, _%_, _<_, _≤_}
+use Prim.Native.Nat.{ℕ, _+_, _/_, _%_, _<_, _≤_}
 use native.Mathlib.Omega.{arith}
 use lib.Dec.{leb}
-use lib.ListN.{length, getD, set, replicate, length-set, getD-replicate}
+use lib.ListN.{length, getD, set, length-set, getD-replicate}
 use Rattle.std.proofs.shelf.Tests.{both-ways, not-false, or-cases}
 use Rattle.std.specs.declared.option.Option.{Option}
 use Rattle.std.specs.declared.option.Option.the-variants.{Some, None}
-use Rattle.std.specs.Options.{isSome}
 use Rattle.store.specs.declared.Version.{Version}
 use Rattle.queue.specs.Tokens.{Tells, place, remove, has, ascending}
+use Rattle.queue.proofs.Contents.{length-place, length-remove, has-placed, has-new, has-left}
+use Rattle.queue.proofs.Order.{place-ascending, remove-ascending}
 use Rattle.service.specs.declared.refusals.Refusal.{Refusal}
 use Rattle.service.specs.declared.calls.Call.{Call}
 use Rattle.service.specs.declared.calls.Call.the-variants.{Begin, Read, Write, Close, Certify, Commit, Abort, Settle}
 use Rattle.service.specs.declared.tools.Entry.{Entry}
 use Rattle.service.specs.declared.tools.Phase.{Phase}
 use Rattle.service.specs.declared.tools.Phase.the-variants.{Idle, Open, Closed, Failed, Committed, Aborting}
-use Rattle.service.specs.declared.tools.Stand.the-variants.{Held, Settled}
+use Rattle.service.specs.declared.tools.Stand.the-variants.{Settled}
 use Rattle.service.specs.declared.tokens.ReadToken.{ReadToken}
 use Rattle.service.specs.declared.tokens.WriteToken.{WriteToken}
 use Rattle.service.specs.Refusals.{refusal, rejects}
 use Rattle.service.specs.Entries.{isHeld, find, enter, readFrom, writtenTo, stood, anyHeld}
-use Rattle.service.specs.Service.{Seat, State, readTells, writeTells, fresh, seat, version, entry, absent, is, toolOf, counter, allowed, rules, phased, entered, rested, isEmpty, unlessHeld, next, nextVersions, nextReads, nextWrites, nextSeat, reseat, outcome, step, largest, start}
+use Rattle.service.specs.Service.{Seat, State, readTells, writeTells, fresh, seat, version, entry, absent, is, toolOf, counter, rules, phased, entered, rested, isEmpty, unlessHeld, next, nextVersions, nextReads, nextWrites, nextSeat, reseat, outcome, step, largest, start}
 use Rattle.service.specs.Sound.{Stamped, isRead, isWritten, held, total, SeatSound, Sound}
 use Rattle.service.proofs.Phases.{is-true, stamped-at}
 use Rattle.service.proofs.Entries.{found, entry-item, find-item, calm-entry}
 use Rattle.service.proofs.Rules.{Clear, clear, tool-below, rejected}
-use Rattle.service.proofs.Queued.{length-place, length-remove, has-place-old, has-place-new, has-remove-other, ascending-place, ascending-remove}
 use Rattle.service.proofs.Room.{held-calm, total-le, room-kept, room-more, room-less, room-left}
-use Rattle.service.proofs.Seats.{SeatCases, seat-cases, closedAt, bare-seat, rested-seat, small-enter, touched-seat, closed-seat, phased-seat, unless-held-seat, held-stamped, requeued-seat, certified-seat, settled-seat}
+use Rattle.service.proofs.Seats.{SeatCases, seat-cases, closedAt, bare-seat, rested-seat, small-enter, touched-seat, closed-seat, phased-seat, unless-held-seat, requeued-seat, certified-seat, settled-seat}
 
 pub at-start : (vs : List Version) (t : ℕ) → t < 16 → seat (start vs) t ≡ fresh (largest vs / 16)
 at-start vs t h = getD-replicate 16 t (fresh (largest vs / 16)) (fresh 0) h
@@ -53,15 +53,15 @@ module _ {A : Type 0} (k : Tells A) (q : List A) where
   length-grown false x = omega arith
 
   has-grown : (b : Bool) (x : A) (j n : ℕ) → has k j n q ≡ true → has k j n (cond b (place k x q) q) ≡ true
-  has-grown true x j n h = has-place-old k j n x q h
+  has-grown true x j n h = has-placed k j n x q h
   has-grown false x j n h = h
 
-  has-new : (b : Bool) (x : A) → b ≡ true → has k (k .item x) (k .stamp x) (cond b (place k x q) q) ≡ true
-  has-new true x h = has-place-new k x q
-  has-new false x h = absurd (both-ways false refl h)
+  new-in : (b : Bool) (x : A) → b ≡ true → has k (k .item x) (k .stamp x) (cond b (place k x q) q) ≡ true
+  new-in true x h = has-new k x q
+  new-in false x h = absurd (both-ways false refl h)
 
   ordered-grown : (b : Bool) (x : A) → ascending k q ≡ true → ascending k (cond b (place k x q) q) ≡ true
-  ordered-grown true x h = ascending-place k x q h
+  ordered-grown true x h = place-ascending k x q h
   ordered-grown false x h = h
 
   length-shrunk : (b : Bool) (i s : ℕ) → (b ≡ true → has k i s q ≡ true) → length (cond b (remove k i s q) q) + cond b 1 0 ≡ length q
@@ -69,11 +69,11 @@ module _ {A : Type 0} (k : Tells A) (q : List A) where
   length-shrunk false i s h = omega arith
 
   has-shrunk : (b : Bool) (i s j n : ℕ) → (j ≡ i → n ≡ s → ⊥) → has k j n q ≡ true → has k j n (cond b (remove k i s q) q) ≡ true
-  has-shrunk true i s j n ne h = has-remove-other k i s j n q ne h
+  has-shrunk true i s j n ne h = has-left k j n i s q ne ∙ h
   has-shrunk false i s j n ne h = h
 
   ordered-shrunk : (b : Bool) (i s : ℕ) → ascending k q ≡ true → ascending k (cond b (remove k i s q) q) ≡ true
-  ordered-shrunk true i s h = ascending-remove k i s q h
+  ordered-shrunk true i s h = remove-ascending k i s q h
   ordered-shrunk false i s h = h
 
 -- an entry without a token: no queue is full
@@ -184,7 +184,7 @@ module _ (s : State) (k : Sound s) where
       sound-certify nh = sound-put (nextSeat s (seat s t) (Certify t i)) (s .versions) (nextReads s (seat s t) (Certify t i)) (nextWrites s (seat s t) (Certify t i))
           (certified-seat (s .reads) (s .writes) t (seat s t) mine i e fd l (nextReads s (seat s t) (Certify t i)) (nextWrites s (seat s t) (Certify t i))
           (λ j. grow-r j (seat s t .stamp)) (λ j. grow-w j (seat s t .stamp))
-          (has-new readTells (s .reads) (isRead e) rt) (has-new writeTells (s .writes) (isWritten e) wt))
+          (new-in readTells (s .reads) (isRead e) rt) (new-in writeTells (s .writes) (isWritten e) wt))
           (λ u h _. requeued-seat (s .reads) (s .writes) u (seat s u) (k .seats u h) (nextReads s (seat s t) (Certify t i)) (nextWrites s (seat s t) (Certify t i))
           (λ j _. grow-r j (seat s u .stamp)) (λ j _. grow-w j (seat s u .stamp)))
           (let a = length-grown readTells (s .reads) (isRead e) rt in

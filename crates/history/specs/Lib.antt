@@ -1,0 +1,6 @@
+pub mod History
+pub mod Transactions
+pub mod Serial
+pub mod Runs
+pub mod Shortcuts
+pub mod Example
