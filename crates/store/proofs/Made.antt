@@ -28,12 +28,12 @@ set-made f g n i x here other =
     let lg = length-map-counting g 0 n in
     same-lists _ _ (lg ∙ sym (length-set _ i x ∙ lf))
     (λ j d h.
-      let below : j < n = omega arith in
-      let made = getD-map-counting g 0 n j j d below (omega arith) in
-      ⊎-elim
-      (λ e. made ∙ ap g e ∙ here (omega arith) ∙ sym (ap (λ k. getD (set (map f (counting 0 n)) i x) k d) e ∙ getD-set-same _ i x d (omega arith)))
-      (λ apart. made ∙ other j below apart ∙ sym (getD-set-other _ i j x d apart ∙ getD-map-counting f 0 n j j d below (omega arith)))
-      (cases-eq j i))
+    let below : j < n = omega arith in
+    let made = getD-map-counting g 0 n j j d below (omega arith) in
+    ⊎-elim
+    (λ e. made ∙ ap g e ∙ here (omega arith) ∙ sym (ap (λ k. getD (set (map f (counting 0 n)) i x) k d) e ∙ getD-set-same _ i x d (omega arith)))
+    (λ apart. made ∙ other j below apart ∙ sym (getD-set-other _ i j x d apart ∙ getD-map-counting f 0 n j j d below (omega arith)))
+    (cases-eq j i))
 
 pub nth-made-past : {X : Type 0} (f : ℕ → X) (n i : ℕ) → n ≤ i → nth (map f (counting 0 n)) i ≡ None
 nth-made-past f n i past = let long = length-map-counting f 0 n in nth-past _ i (omega arith)

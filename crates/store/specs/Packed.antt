@@ -27,7 +27,7 @@ unpackedWith width bytes =
     record {
       value = numberIn (take width bytes);
       twrite = numberIn (part width stampWidth bytes);
-      tread = numberIn (part (width + stampWidth) stampWidth bytes)
+      tread = numberIn (part (width + stampWidth) stampWidth bytes);
     }
 
 abbrev pub packed : Version → List ℕ

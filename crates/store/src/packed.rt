@@ -10,8 +10,11 @@ use crate::Value;
 use crate::Version;
 
 const VALUE: usize = size_of::<Value>();
+
 const STAMP: usize = size_of::<Stamp>();
+
 const TREAD: usize = VALUE + STAMP;
+
 pub(crate) const SIZE: usize = VALUE + STAMP + STAMP;
 
 pub(crate) fn pack(version: Version) -> [u8; SIZE]
@@ -28,7 +31,29 @@ pub(crate) fn pack(version: Version) -> [u8; SIZE]
 pub(crate) fn unpack(bytes: &[u8]) -> Option<Version>
     ensures { λ r. ⌜ r ≡ cond (eqb (length (now (bytes .entry))) versionSize) (Some (unpackedOf (now (bytes .entry)))) None ⌝ }
 {
-    let [v0, v1, v2, v3, w0, w1, w2, w3, w4, w5, w6, w7, r0, r1, r2, r3, r4, r5, r6, r7] = bytes else {
+    let [
+        v0,
+        v1,
+        v2,
+        v3,
+        w0,
+        w1,
+        w2,
+        w3,
+        w4,
+        w5,
+        w6,
+        w7,
+        r0,
+        r1,
+        r2,
+        r3,
+        r4,
+        r5,
+        r6,
+        r7,
+    ] = bytes
+    else {
         return None;
     };
     Some(Version {

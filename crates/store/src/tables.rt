@@ -50,7 +50,10 @@ impl<'a> Table<'a> {
             Ok(()) => count as u16,
             Err(_) => 0,
         };
-        Table { area: Area { bytes }, count }
+        Table {
+            area: Area { bytes },
+            count,
+        }
     }
 
     // The whole buffer.
@@ -82,7 +85,8 @@ pub impl Store for Table<'_> as TableStore {
         ensures items { λ _. ⌜ now (self .exit) .count ≡ now (self .entry) .count ⌝ }
     {
         if item < self.count {
-            self.area.write(RECORD * item as usize, &packed::pack(version));
+            self.area
+                .write(RECORD * item as usize, &packed::pack(version));
         }
     }
 }
