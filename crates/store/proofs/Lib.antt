@@ -1,0 +1,5 @@
+mod Made
+mod Numbers
+mod Places
+mod RoundTrip
+mod TableLaws

@@ -6,9 +6,14 @@ ghost use lib.ListN.{length, set};
 ghost use Rattle.std.specs.shelf.Maps.{nth};
 ghost use Rattle.store.specs.declared.Version.{Version};
 
+mod areas;
+mod faults;
+mod packed;
 mod tables;
 
+pub use faults::Fault;
 pub use tables::Table;
+pub use tables::TableStore;
 
 // A parameter's number, counted from 0.
 pub type Item = u16;
@@ -27,6 +32,8 @@ pub struct Version {
 
 // The most items that a store may have.
 pub const MOST_ITEMS: usize = 256;
+// The longest buffer that a store is opened on.
+pub const MOST_BYTES: usize = 65536;
 
 // Anything that keeps a list of versions. `versions` is what it means, and all that the service knows of it.
 pub trait Store {
@@ -43,3 +50,6 @@ pub trait Store {
     fn put(&mut self, item: Item, version: Version)
         ensures { λ _. ⌜ versions (now (self .exit)) ≡ set (versions (now (self .entry))) item version ⌝ };
 }
+
+#[cfg(test)]
+mod tests;
