@@ -15,3 +15,4 @@ pub mod Laws
 pub mod Stamps
 pub mod Shortcuts
 pub mod Example
+mod Onward

@@ -21,6 +21,17 @@ pub data Run (vs : List Version) : History → State → Type 0 where
   started : Run vs [] (start vs)
   called : {h : History} {s : State} (c : Call) (a : Result Answer Refusal) (s′ : State) → Run vs h s → Does s c a s′ → Run vs ((c, a) ∷ h) s′
 
+-- the history after these calls with these answers, which came in this order; the longer list's rest does not count
+abbrev pub onward : List Call → List (Result Answer Refusal) → History → History
+onward [] os h = h
+onward (c ∷ cs) [] h = h
+onward (c ∷ cs) (o ∷ os) h = onward cs os ((c, o) ∷ h)
+
+-- a run, and the law that it meets
+pub record Runs (vs : List Version) (h : History) (s : State) : Type 0 where
+  pub run : Run vs h s
+  pub law : Law vs h (s .versions)
+
 -- every run meets the law
 abbrev pub Serial-order : Type 0
 Serial-order = (vs : List Version) (h : History) (s : State) → Run vs h s → Law vs h (s .versions)

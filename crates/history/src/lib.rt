@@ -4,6 +4,12 @@ ghost use Rattle.history.specs.Runs.{Serial-order, Queues-hold, Refusals-keep,
 ghost use Rattle.history.specs.Shortcuts.{Shortcuts-break};
 ghost use Rattle.history.specs.Example.{Example-meets};
 
+mod runs;
+
+pub use runs::Outcome;
+pub use runs::resume;
+pub use runs::run;
+
 // Every run is as good as its committed transactions one after the other, by their stamps.
 pub fn serial_order()
     ensures { λ _. ⌜ Serial-order ⌝ }
