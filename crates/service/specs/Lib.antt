@@ -5,3 +5,4 @@ pub mod Service
 pub mod Sound
 pub mod Desks
 pub mod Services
+pub mod Cases

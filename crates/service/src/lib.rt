@@ -1,5 +1,6 @@
 // The parameter service: transactions over the items of one store, certified by stamps.
 mod calls;
+mod cases;
 mod certification;
 mod desks;
 mod looks;
@@ -15,6 +16,7 @@ mod transactions;
 
 pub use calls::Answer;
 pub use calls::Call;
+pub use cases::worked_cases;
 pub use looks::Look;
 pub use refusals::Refusal;
 pub use services::Service;
