@@ -1,5 +1,11 @@
+mod Compacts
+mod Ends
+mod Images
+mod Lasts
 mod Made
 mod Numbers
+mod Passes
 mod Places
 mod RoundTrip
+mod Shifts
 mod TableLaws

@@ -8,6 +8,7 @@ ghost use Rattle.store.specs.declared.Version.{Version};
 
 mod areas;
 mod faults;
+mod records;
 mod packed;
 mod tables;
 
