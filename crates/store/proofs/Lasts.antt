@@ -68,6 +68,13 @@ lastBy-within f key a (suc n) q e = go (lastBy f key (counting (a + 1) n)) (λ h
         none-is : {y : ℕ} → _≡_ {A = Option ℕ} None (Some y) → ⊥
         none-is e′ = let z : _≡_ {A = ℕ} 0 1 = cc in omega arith
 
+pub lastBy-same :
+    (f g : ℕ → ℕ) (key a n : ℕ) → ((k : ℕ) → k < a + n → f k ≡ g k) → lastBy f key (counting a n) ≡ lastBy g key (counting a n)
+lastBy-same f g key a zero same = refl
+lastBy-same f g key a (suc n) same =
+    ap (λ o. orOther o (cond (eqb (f a) key) (Some a) None)) (lastBy-same f g key (a + 1) n (λ k below. same k (omega arith)))
+    ∙ ap (λ x. orOther (lastBy g key (counting (a + 1) n)) (cond (eqb x key) (Some a) None)) (same a (omega arith))
+
 -- compaction keeps the last record of each item
 pub lastBy-kept : (key : ℕ) (rs : List (List ℕ)) → lastBy itemOf key (kept rs) ≡ lastBy itemOf key rs
 lastBy-kept key [] = refl
@@ -145,7 +152,7 @@ counting-split a (suc m) n =
     let shift : a + 1 + m ≡ a + suc m = omega arith in
     ap (counting a) (suc-add m n) ∙ ap (λ l. a ∷ l) (counting-split (a + 1) m n ∙ ap (λ k. counting (a + 1) m ++ counting k n) shift)
 
-or-cond : {X : Type 0} (b : Bool) (x : X) (o : Option X) → orOther (cond b (Some x) None) o ≡ cond b (Some x) o
+pub or-cond : {X : Type 0} (b : Bool) (x : X) (o : Option X) → orOther (cond b (Some x) None) o ≡ cond b (Some x) o
 or-cond true x o = refl
 or-cond false x o = refl
 

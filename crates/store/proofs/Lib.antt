@@ -2,6 +2,7 @@ mod Compacts
 mod Ends
 mod Images
 mod Lasts
+mod LogLaws
 mod Made
 mod Numbers
 mod Passes

@@ -95,12 +95,13 @@ compacted buffer = image (kept (records buffer)) (length buffer)
 abbrev pub appended : ℕ → Version → List ℕ → List ℕ
 appended item v buffer = over (recordSize * used buffer) (recordOf item v) buffer
 
--- the buffer after a put: compacted where no record fits any more, and then a record longer
+-- a buffer in which a record more fits: compacted, where none does
+abbrev pub roomy : List ℕ → List ℕ
+roomy buffer = cond (ltb (length buffer) (recordSize * (used buffer + 1))) (compacted buffer) buffer
+
+-- the buffer after a put: a record more, and past the items nothing
 abbrev pub afterPut : List ℕ → ℕ → ℕ → Version → List ℕ
-afterPut buffer count item v =
-    cond (ltb item count)
-      (appended item v (cond (ltb (length buffer) (recordSize * (used buffer + 1))) (compacted buffer) buffer))
-      buffer
+afterPut buffer count item v = cond (ltb item count) (appended item v (roomy buffer)) buffer
 
 -- why a buffer cannot be a log of `count` items
 abbrev pub checked : List ℕ → ℕ → Result (Unit {0}) Fault

@@ -8,11 +8,14 @@ ghost use Rattle.store.specs.declared.Version.{Version};
 
 mod areas;
 mod faults;
-mod records;
+mod logs;
 mod packed;
+mod records;
 mod tables;
 
 pub use faults::Fault;
+pub use logs::Log;
+pub use logs::LogStore;
 pub use tables::Table;
 pub use tables::TableStore;
 

@@ -54,7 +54,8 @@ pub(crate) fn encode(item: Item, version: Version) -> [u8; RECORD]
 
 // How many records stand before the log's end.
 pub(crate) fn used(bytes: &[u8]) -> usize
-    ensures { λ r. ⌜ r ≡ usedIn (now (bytes .entry)) ⌝ }
+    ensures value { λ r. ⌜ r ≡ usedIn (now (bytes .entry)) ⌝ }
+    ensures fits { λ r. ⌜ recordSize * r ≤ length (now (bytes .entry)) ⌝ }
 {
     let places = bytes.len() / RECORD;
     for place in 0..places {
@@ -113,7 +114,7 @@ pub(crate) fn clear(bytes: &[u8], from: usize) -> bool
 }
 
 // The item and the version of a record that is known to be sound.
-pub(crate) fn item_at(bytes: &[u8], place: usize) -> Item
+fn item_at(bytes: &[u8], place: usize) -> Item
     requires { ⌜ recordSize * (place + 1) ≤ length (now bytes) ⌝ }
     ensures { λ r. ⌜ r ≡ itemOf (recordAt (now (bytes .entry)) place) ⌝ }
 {
@@ -131,11 +132,12 @@ pub(crate) fn version_at(bytes: &[u8], place: usize) -> Option<Version>
 }
 
 // The place of each item's last record.
-pub(crate) fn index(bytes: &[u8], used: usize) -> [Option<u16>; MOST_ITEMS]
+fn index(bytes: &[u8], used: usize) -> [Option<u16>; MOST_ITEMS]
     requires fits { ⌜ recordSize * used ≤ length (now bytes) ⌝ }
     requires short { ⌜ length (now bytes) ≤ 65536 ⌝ }
     requires items { ⌜ ((k : ℕ) → k < used → itemOf (recordAt (now bytes) k) < 256) ⌝ }
-    ensures { λ r. ⌜ ((item : ℕ) → item < 256 → getD r item None ≡ lastPlace (now (bytes .entry)) used item) ⌝ }
+    ensures places { λ r. ⌜ ((item : ℕ) → item < 256 → getD r item None ≡ lastPlace (now (bytes .entry)) used item) ⌝ }
+    ensures wide { λ r. ⌜ length r ≡ 256 ⌝ }
 {
     let mut latest = [None; MOST_ITEMS];
     for place in 0..used {
@@ -150,6 +152,16 @@ impl Area<'_> {
         ensures { λ r. ⌜ r ≡ itemOf (recordAt (now (now (self .entry) .bytes)) place) ⌝ }
     {
         item_at(self.bytes, place)
+    }
+
+    pub(crate) fn index(&self, used: usize) -> [Option<u16>; MOST_ITEMS]
+        requires fits { ⌜ recordSize * used ≤ length (now (now self .bytes)) ⌝ }
+        requires short { ⌜ length (now (now self .bytes)) ≤ 65536 ⌝ }
+        requires items { ⌜ ((k : ℕ) → k < used → itemOf (recordAt (now (now self .bytes)) k) < 256) ⌝ }
+        ensures places { λ r. ⌜ ((item : ℕ) → item < 256 → getD r item None ≡ lastPlace (now (now (self .entry) .bytes)) used item) ⌝ }
+        ensures wide { λ r. ⌜ length r ≡ 256 ⌝ }
+    {
+        index(self.bytes, used)
     }
 }
 
