@@ -5,6 +5,7 @@ mod Lasts
 mod LogLaws
 mod Made
 mod Numbers
+mod PairLaws
 mod Passes
 mod Places
 mod RoundTrip

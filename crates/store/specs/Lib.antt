@@ -3,3 +3,4 @@ pub mod Packed
 pub mod Faults
 pub mod Table
 pub mod Log
+pub mod Pair
