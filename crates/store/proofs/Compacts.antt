@@ -53,7 +53,7 @@ pass-drop old bytes n place end p below later =
       front = ap (λ rs. take (25 * end) bytes ++ bytesOf rs) (sym same) ∙ p .front;
       count = ap (λ rs. end + length rs) (sym same) ∙ p .count;
       behind = omega arith;
-      long = p .long
+      long = p .long;
     }
 
 pub moved-is : (old bytes : List ℕ) (place : ℕ) → drop (25 * place) bytes ≡ drop (25 * place) old → recordAt bytes place ≡ recordAt old place
@@ -77,14 +77,14 @@ pass-keep old bytes n place end p below fits last =
     record {
       rest = drop-over (25 * end) (25 * (place + 1)) r bytes (omega arith) (omega arith) ∙ next old bytes place (p .rest);
       front =
-        ap (λ l. l ++ bytesOf later) front
-        ∙ append-assoc (take (25 * end) bytes) r (bytesOf later)
-        ∙ ap (λ x. take (25 * end) bytes ++ (x ++ bytesOf later)) same
-        ∙ ap (λ rs. take (25 * end) bytes ++ bytesOf rs) (sym split)
-        ∙ p .front;
+          ap (λ l. l ++ bytesOf later) front
+          ∙ append-assoc (take (25 * end) bytes) r (bytesOf later)
+          ∙ ap (λ x. take (25 * end) bytes ++ (x ++ bytesOf later)) same
+          ∙ ap (λ rs. take (25 * end) bytes ++ bytesOf rs) (sym split)
+          ∙ p .front;
       count = omega (arith, ap length split);
       behind = omega arith;
-      long = length-over (25 * end) r bytes (omega arith) ∙ long
+      long = length-over (25 * end) r bytes (omega arith) ∙ long;
     }
 
 -- the same under other names
@@ -103,10 +103,10 @@ pass-all old bytes n place end p done =
     let none : drop place (firsts old n) ≡ [] = drop-all place (firsts old n) (omega (arith, length-map-counting (recordAt old) 0 n)) in
     let count : end ≡ length (kept (firsts old n)) = omega (arith, p .count, ap (λ rs. length (kept rs)) none) in
     let front : take (25 * end) bytes ≡ bytesOf (kept (firsts old n)) =
-      sym (append-nil (take (25 * end) bytes)) ∙ ap (λ rs. take (25 * end) bytes ++ bytesOf (kept rs)) (sym none) ∙ p .front in
+    sym (append-nil (take (25 * end) bytes)) ∙ ap (λ rs. take (25 * end) bytes ++ bytesOf (kept rs)) (sym none) ∙ p .front in
     record {
       count = count;
       image-is =
-        ap (λ l. l ++ replicate (length bytes - 25 * end) 0) front
-        ∙ ap (λ k. bytesOf (kept (firsts old n)) ++ replicate k 0) (omega (arith, p .long, count))
+          ap (λ l. l ++ replicate (length bytes - 25 * end) 0) front
+          ∙ ap (λ k. bytesOf (kept (firsts old n)) ++ replicate k 0) (omega (arith, p .long, count));
     }

@@ -68,9 +68,9 @@ used-image rs size all room =
     let long = length-image rs size all room in
     used-is (image rs size) (length rs) (omega arith)
     (λ k below e.
-      let tag = sym (tag-is (image rs size) k) ∙ ap (λ r. getD r 0 0) (recordAt-image rs size k all below) in
-      let parts = and-parts (eqb (length (getD rs k [])) 25) (not (eqb (getD (getD rs k []) 0 0) 0)) (all-at full rs k [] all below) in
-      eqb-false _ 0 (not-true _ (parts .1)) (sym tag ∙ e))
+    let tag = sym (tag-is (image rs size) k) ∙ ap (λ r. getD r 0 0) (recordAt-image rs size k all below) in
+    let parts = and-parts (eqb (length (getD rs k [])) 25) (not (eqb (getD (getD rs k []) 0 0) 0)) (all-at full rs k [] all below) in
+    eqb-false _ 0 (not-true _ (parts .1)) (sym tag ∙ e))
     (λ _. past-image rs size (25 * length rs) all (omega arith))
 
 pub records-image : (rs : List (List ℕ)) (size : ℕ) → all-pass full rs ≡ true → 25 * length rs ≤ size → records (image rs size) ≡ rs
@@ -90,10 +90,10 @@ image-push rs r size all long =
     let z : ℕ = size - 25 * length rs in
     let at = length-joined rs all in
     let rest : drop (25 * length rs + length r) (j ++ replicate z 0) ≡ replicate (size - 25 * length (rs ++ r ∷ [])) 0 =
-      sym (drop-drop (length r) (25 * length rs) (j ++ replicate z 0))
-      ∙ ap (drop (length r)) (drop-at j (replicate z 0) (25 * length rs) at)
-      ∙ drop-replicate (length r) z 0
-      ∙ ap (λ n. replicate n 0) (omega (arith, length-push rs r)) in
+    sym (drop-drop (length r) (25 * length rs) (j ++ replicate z 0))
+    ∙ ap (drop (length r)) (drop-at j (replicate z 0) (25 * length rs) at)
+    ∙ drop-replicate (length r) z 0
+    ∙ ap (λ n. replicate n 0) (omega (arith, length-push rs r)) in
     ap (λ l. l ++ (r ++ drop (25 * length rs + length r) (j ++ replicate z 0))) (take-at j (replicate z 0) (25 * length rs) at)
     ∙ ap (λ l. j ++ (r ++ l)) rest
     ∙ sym (append-assoc j r (replicate (size - 25 * length (rs ++ r ∷ [])) 0))
@@ -115,10 +115,10 @@ pub image-is : (buffer : List ℕ) (n : ℕ) → all-pass (λ b. eqb b 0) (drop 
 image-is buffer n clear =
     let long = length-map-counting (recordAt buffer) 0 n in
     let tail : drop (25 * n) buffer ≡ replicate (length buffer - 25 * length (map (recordAt buffer) (counting 0 n))) 0 =
-      same-lists _ _ (length-drop (25 * n) buffer ∙ sym (length-replicate _ 0 ∙ ap (λ k. length buffer - 25 * k) long))
-      (λ k d below.
-        eqb-true _ 0 (all-at (λ b. eqb b 0) (drop (25 * n) buffer) k d clear below)
-        ∙ sym (getD-replicate _ k 0 d (omega (arith, length-drop (25 * n) buffer, long)))) in
+    same-lists _ _ (length-drop (25 * n) buffer ∙ sym (length-replicate _ 0 ∙ ap (λ k. length buffer - 25 * k) long))
+    (λ k d below.
+    eqb-true _ 0 (all-at (λ b. eqb b 0) (drop (25 * n) buffer) k d clear below)
+    ∙ sym (getD-replicate _ k 0 d (omega (arith, length-drop (25 * n) buffer, long)))) in
     sym (take-append-drop (25 * n) buffer)
     ∙ ap (λ l. l ++ drop (25 * n) buffer) (front-is buffer n)
     ∙ ap (λ l. joined (λ r. r) (map (recordAt buffer) (counting 0 n)) ++ l) tail

@@ -65,6 +65,7 @@ lastBy-within f key a (suc n) q e = go (lastBy f key (counting (a + 1) n)) (λ h
       where
         some-is : {x y : ℕ} → _≡_ {A = Option ℕ} (Some x) (Some y) → x ≡ y
         some-is e′ = cc
+
         none-is : {y : ℕ} → _≡_ {A = Option ℕ} None (Some y) → ⊥
         none-is e′ = let z : _≡_ {A = ℕ} 0 1 = cc in omega arith
 
@@ -81,15 +82,15 @@ lastBy-kept key [] = refl
 lastBy-kept key (r ∷ rs) =
     ⊎-elim
     (λ later.
-      ap (lastBy itemOf key) (cond-true _ (kept rs) (r ∷ kept rs) later)
-      ∙ lastBy-kept key rs
-      ∙ sym (⊎-elim
-        (λ same. or-some (lastBy itemOf key rs) _ (ap (λ k. isSome (lastBy itemOf k rs)) (sym (eqb-true (itemOf r) key same)) ∙ later))
-        (λ other. ap (orOther (lastBy itemOf key rs)) (cond-false _ (Some r) None other) ∙ or-none (lastBy itemOf key rs))
-        (cases-bool (eqb (itemOf r) key))))
+    ap (lastBy itemOf key) (cond-true _ (kept rs) (r ∷ kept rs) later)
+    ∙ lastBy-kept key rs
+    ∙ sym (⊎-elim
+    (λ same. or-some (lastBy itemOf key rs) _ (ap (λ k. isSome (lastBy itemOf k rs)) (sym (eqb-true (itemOf r) key same)) ∙ later))
+    (λ other. ap (orOther (lastBy itemOf key rs)) (cond-false _ (Some r) None other) ∙ or-none (lastBy itemOf key rs))
+    (cases-bool (eqb (itemOf r) key))))
     (λ last.
-      ap (lastBy itemOf key) (cond-false _ (kept rs) (r ∷ kept rs) last)
-      ∙ ap (λ o. orOther o (cond (eqb (itemOf r) key) (Some r) None)) (lastBy-kept key rs))
+    ap (lastBy itemOf key) (cond-false _ (kept rs) (r ∷ kept rs) last)
+    ∙ ap (λ o. orOther o (cond (eqb (itemOf r) key) (Some r) None)) (lastBy-kept key rs))
     (cases-bool (isSome (lastBy itemOf (itemOf r) rs)))
 
 pub all-kept : (q : List ℕ → Bool) (rs : List (List ℕ)) → all-pass q rs ≡ true → all-pass q (kept rs) ≡ true
@@ -122,9 +123,9 @@ one-more :
 one-more count r rs below =
     let long = length-map-counting (has rs) 0 count in
     let marked : marks count (r ∷ rs) ≡ set (marks count rs) (itemOf r) true =
-      set-made (has rs) (has (r ∷ rs)) count (itemOf r) true
-      (λ _. ap (λ o. isSome (orOther (lastBy itemOf (itemOf r) rs) o)) (cond-true _ (Some r) None (eq-eqb (itemOf r) (itemOf r) refl)) ∙ or-has (lastBy itemOf (itemOf r) rs) r)
-      (λ j _ apart. ap (λ o. isSome (orOther (lastBy itemOf j rs) o)) (cond-false _ (Some r) None (ne-eqb (itemOf r) j (λ e. apart (sym e)))) ∙ ap isSome (or-none (lastBy itemOf j rs))) in
+    set-made (has rs) (has (r ∷ rs)) count (itemOf r) true
+    (λ _. ap (λ o. isSome (orOther (lastBy itemOf (itemOf r) rs) o)) (cond-true _ (Some r) None (eq-eqb (itemOf r) (itemOf r) refl)) ∙ or-has (lastBy itemOf (itemOf r) rs) r)
+    (λ j _ apart. ap (λ o. isSome (orOther (lastBy itemOf j rs) o)) (cond-false _ (Some r) None (ne-eqb (itemOf r) j (λ e. apart (sym e)))) ∙ ap isSome (or-none (lastBy itemOf j rs))) in
     let bit : getD (marks count rs) (itemOf r) false ≡ has rs (itemOf r) = getD-map-counting (has rs) 0 count (itemOf r) (itemOf r) false below (omega arith) in
     ap (λ m. countBy (λ b. b) m + cond (has rs (itemOf r)) 1 0) marked
     ∙ ap (λ b. countBy (λ b. b) (set (marks count rs) (itemOf r) true) + cond b 1 0) (sym bit)
@@ -189,9 +190,9 @@ some-mapped g (Some x) = refl
 pub record Turn (f : ℕ → List ℕ) (n place : ℕ) : Type 0 where
   pub split : drop place (map f (counting 0 n)) ≡ f place ∷ drop (place + 1) (map f (counting 0 n))
   pub last : lastBy (λ k. itemOf (f k)) (itemOf (f place)) (counting 0 n) ≡ Some place
-    → kept (drop place (map f (counting 0 n))) ≡ f place ∷ kept (drop (place + 1) (map f (counting 0 n)))
+      → kept (drop place (map f (counting 0 n))) ≡ f place ∷ kept (drop (place + 1) (map f (counting 0 n)))
   pub later : (lastBy (λ k. itemOf (f k)) (itemOf (f place)) (counting 0 n) ≡ Some place → ⊥)
-    → kept (drop place (map f (counting 0 n))) ≡ kept (drop (place + 1) (map f (counting 0 n)))
+      → kept (drop place (map f (counting 0 n))) ≡ kept (drop (place + 1) (map f (counting 0 n)))
 
 pub turn : (f : ℕ → List ℕ) (n place : ℕ) → place < n → Turn f n place
 turn f n place below =
@@ -200,25 +201,25 @@ turn f n place below =
     let tail : List ℕ = counting (place + 1) rest in
     let front : List ℕ = counting 0 place in
     let whole : counting 0 n ≡ front ++ (place ∷ tail) =
-      ap (counting 0) (omega arith) ∙ counting-split 0 place (suc rest) ∙ ap (λ k. front ++ counting k (suc rest)) (zero-add place) in
+    ap (counting 0) (omega arith) ∙ counting-split 0 place (suc rest) ∙ ap (λ k. front ++ counting k (suc rest)) (zero-add place) in
     let made : map f (counting 0 n) ≡ map f front ++ (f place ∷ map f tail) = ap (map f) whole ∙ map-append f front (place ∷ tail) in
     let long : length (map f front) ≡ place = length-map-counting f 0 place in
     let here : drop place (map f (counting 0 n)) ≡ f place ∷ map f tail = ap (drop place) made ∙ drop-at (map f front) (f place ∷ map f tail) place long in
     let after : drop (place + 1) (map f (counting 0 n)) ≡ map f tail = sym (drop-drop 1 place (map f (counting 0 n))) ∙ ap (drop 1) here in
     let itemAt : ℕ → ℕ = λ k. itemOf (f k) in
     let found : lastBy itemAt key (counting 0 n) ≡ orOther (orOther (lastBy itemAt key tail) (Some place)) (lastBy itemAt key front) =
-      ap (lastBy itemAt key) whole ∙ lastBy-append itemAt key front (place ∷ tail)
-      ∙ ap (λ p. orOther (orOther (lastBy itemAt key tail) p) (lastBy itemAt key front)) (cond-true _ (Some place) None (eq-eqb key key refl)) in
+    ap (lastBy itemAt key) whole ∙ lastBy-append itemAt key front (place ∷ tail)
+    ∙ ap (λ p. orOther (orOther (lastBy itemAt key tail) p) (lastBy itemAt key front)) (cond-true _ (Some place) None (eq-eqb key key refl)) in
     let flag : isSome (lastBy itemOf key (map f tail)) ≡ isSome (lastBy itemAt key tail) =
-      ap isSome (lastBy-map f itemOf key tail) ∙ some-mapped f (lastBy itemAt key tail) in
+    ap isSome (lastBy-map f itemOf key tail) ∙ some-mapped f (lastBy itemAt key tail) in
     record {
       split = here ∙ ap (λ l. f place ∷ l) (sym after);
       last = λ is.
-        ap kept here
-        ∙ cond-false _ _ _ (flag ∙ none-later (lastBy itemAt key tail) (lastBy itemAt key front) (lastBy itemAt key (counting 0 n)) place (λ q e. omega (arith, lastBy-within itemAt key (place + 1) rest q e .0)) found is)
-        ∙ ap (λ l. f place ∷ kept l) (sym after);
+          ap kept here
+          ∙ cond-false _ _ _ (flag ∙ none-later (lastBy itemAt key tail) (lastBy itemAt key front) (lastBy itemAt key (counting 0 n)) place (λ q e. omega (arith, lastBy-within itemAt key (place + 1) rest q e .0)) found is)
+          ∙ ap (λ l. f place ∷ kept l) (sym after);
       later = λ isnt.
-        ap kept here
-        ∙ cond-true _ _ _ (flag ∙ one-later (lastBy itemAt key tail) (lastBy itemAt key front) (lastBy itemAt key (counting 0 n)) place found isnt)
-        ∙ ap kept (sym after)
+          ap kept here
+          ∙ cond-true _ _ _ (flag ∙ one-later (lastBy itemAt key tail) (lastBy itemAt key front) (lastBy itemAt key (counting 0 n)) place found isnt)
+          ∙ ap kept (sym after);
     }

@@ -89,7 +89,7 @@ good-from b count ok =
       short = ltb-false 65536 (length b) (lengths .0);
       room = ltb-false (length b) (25 * (count + 1)) (lengths .1);
       sounds = not-false _ (tests .2);
-      zeroes = not-false _ (tests .3)
+      zeroes = not-false _ (tests .3);
     }
 
 pub from-good : (b : List ℕ) (count : ℕ) → Good b count → isOk (checked b count) ≡ true
@@ -123,9 +123,9 @@ pub fulls : (b : List ℕ) (count : ℕ) → Good b count → all-pass full (rec
 fulls b count g =
     let fits = used-fits b in
     all-made full (recordAt b) (used b) (λ k below.
-      let tag = sound-tag count (recordAt b k) (all-made-at (sound count) (recordAt b) (used b) k (g .sounds) below) in
-      and-from _ _ (eq-eqb _ 25 (length-part (25 * k) 25 b (omega arith)))
-        (ap not (ne-eqb _ 0 (λ e. omega (arith, tag, e)))))
+    let tag = sound-tag count (recordAt b k) (all-made-at (sound count) (recordAt b) (used b) k (g .sounds) below) in
+    and-from _ _ (eq-eqb _ 25 (length-part (25 * k) 25 b (omega arith)))
+    (ap not (ne-eqb _ 0 (λ e. omega (arith, tag, e)))))
 
 pub is-image : (b : List ℕ) (count : ℕ) → Good b count → b ≡ image (records b) (length b)
 is-image b count g = image-is b (used b) (g .zeroes)
@@ -140,8 +140,8 @@ image-good rs size count some few short room sounds fulls fits =
     let long = length-image rs size fulls fits in
     let n = used-image rs size fulls fits in
     let rest : drop (25 * used (image rs size)) (image rs size) ≡ replicate (size - 25 * length rs) 0 =
-      ap (λ k. drop (25 * k) (image rs size)) n
-      ∙ drop-at (joined (λ r. r) rs) (replicate (size - 25 * length rs) 0) (25 * length rs) (length-joined rs fulls) in
+    ap (λ k. drop (25 * k) (image rs size)) n
+    ∙ drop-at (joined (λ r. r) rs) (replicate (size - 25 * length rs) 0) (25 * length rs) (length-joined rs fulls) in
     record {
       some = some;
       few = few;
@@ -149,9 +149,9 @@ image-good rs size count some few short room sounds fulls fits =
       room = omega arith;
       sounds = ap (all-pass (sound count)) (records-image rs size fulls fits) ∙ sounds;
       zeroes =
-        ap (all-pass (λ x. eqb x 0)) rest
-        ∙ all-from (λ x. eqb x 0) (replicate (size - 25 * length rs) 0) 0
-          (λ k below. eq-eqb _ 0 (getD-replicate (size - 25 * length rs) k 0 0 (omega (arith, length-replicate {A = ℕ} (size - 25 * length rs) 0))))
+          ap (all-pass (λ x. eqb x 0)) rest
+          ∙ all-from (λ x. eqb x 0) (replicate (size - 25 * length rs) 0) 0
+          (λ k below. eq-eqb _ 0 (getD-replicate (size - 25 * length rs) k 0 0 (omega (arith, length-replicate {A = ℕ} (size - 25 * length rs) 0))));
     }
 
 -- the meaning, by the records
@@ -193,12 +193,12 @@ compaction b count g =
       frees = omega arith;
       long = length-image rs (length b) whole (omega arith);
       same =
-        map-same (λ item. versionFrom (compacted b) (lastPlace (compacted b) (used (compacted b)) item)) (λ item. versionFrom b (lastPlace b (used b) item)) count
-        (λ item.
+          map-same (λ item. versionFrom (compacted b) (lastPlace (compacted b) (used (compacted b)) item)) (λ item. versionFrom b (lastPlace b (used b) item)) count
+          (λ item.
           version-is (compacted b) item
           ∙ ap (λ l. meant l item) back
           ∙ ap fromLast (lastBy-kept item (records b))
-          ∙ sym (version-is b item))
+          ∙ sym (version-is b item));
     }
 
 -- one record more
@@ -228,30 +228,30 @@ appending b count item v g below room small =
     let whole : all-pass full rs ≡ true = all-push full (records b) r (fulls b count g) refl in
     let sounds : all-pass (sound count) rs ≡ true = all-push (sound count) (records b) r (g .sounds) (ap (λ k. ltb k count) item-is ∙ lt-ltb item count below) in
     let is : appended item v b ≡ image rs (length b) =
-      ap (λ l. over (25 * used b) r l) (is-image b count g)
-      ∙ ap (λ k. over (25 * k) r (image (records b) (length b))) (sym n)
-      ∙ image-push (records b) r (length b) (fulls b count g) refl in
+    ap (λ l. over (25 * used b) r l) (is-image b count g)
+    ∙ ap (λ k. over (25 * k) r (image (records b) (length b))) (sym n)
+    ∙ image-push (records b) r (length b) (fulls b count g) refl in
     let back : records (appended item v b) ≡ rs = ap records is ∙ records-image rs (length b) whole (omega arith) in
     let count-is : used (appended item v b) ≡ used b + 1 = ap used is ∙ used-image rs (length b) whole (omega arith) ∙ pushed in
     let last : (i : ℕ) → lastBy itemOf i rs ≡ cond (eqb item i) (Some r) (lastBy itemOf i (records b)) =
-      λ i. lastBy-append itemOf i (records b) (r ∷ []) ∙ or-cond (eqb (itemOf r) i) r (lastBy itemOf i (records b)) ∙ ap (λ k. cond (eqb k i) (Some r) (lastBy itemOf i (records b))) item-is in
+    λ i. lastBy-append itemOf i (records b) (r ∷ []) ∙ or-cond (eqb (itemOf r) i) r (lastBy itemOf i (records b)) ∙ ap (λ k. cond (eqb k i) (Some r) (lastBy itemOf i (records b))) item-is in
     let meaning : (i : ℕ) → versionFrom (appended item v b) (lastPlace (appended item v b) (used (appended item v b)) i) ≡ fromLast (cond (eqb item i) (Some r) (lastBy itemOf i (records b))) =
-      λ i. version-is (appended item v b) i ∙ ap (λ l. meant l i) back ∙ ap fromLast (last i) in
+    λ i. version-is (appended item v b) i ∙ ap (λ l. meant l i) back ∙ ap fromLast (last i) in
     record {
       good = subst (λ l. Good l count) (sym is) (image-good rs (length b) count (g .some) (g .few) (g .short) (g .room) sounds whole (omega arith));
       more = count-is;
       long = ap length is ∙ length-image rs (length b) whole (omega arith);
       after =
-        set-made (λ i. versionFrom b (lastPlace b (used b) i)) (λ i. versionFrom (appended item v b) (lastPlace (appended item v b) (used (appended item v b)) i)) count item v
-        (λ _. meaning item ∙ ap fromLast (cond-true _ (Some r) (lastBy itemOf item (records b)) (eq-eqb item item refl)) ∙ record-version item v small)
-        (λ i _ apart. meaning i ∙ ap fromLast (cond-false _ (Some r) (lastBy itemOf i (records b)) (ne-eqb item i (λ e. apart (sym e)))) ∙ sym (version-is b i));
+          set-made (λ i. versionFrom b (lastPlace b (used b) i)) (λ i. versionFrom (appended item v b) (lastPlace (appended item v b) (used (appended item v b)) i)) count item v
+          (λ _. meaning item ∙ ap fromLast (cond-true _ (Some r) (lastBy itemOf item (records b)) (eq-eqb item item refl)) ∙ record-version item v small)
+          (λ i _ apart. meaning i ∙ ap fromLast (cond-false _ (Some r) (lastBy itemOf i (records b)) (ne-eqb item i (λ e. apart (sym e)))) ∙ sym (version-is b i));
       place = λ i.
-        lastPlace-more (appended item v b) (used b) i
-        ∙ ap (λ l. cond (eqb (itemOf l) i) (Some (used b)) (lastPlace (appended item v b) (used b) i)) (part-over-same (25 * used b) r b (omega arith))
-        ∙ ap (λ k. cond (eqb k i) (Some (used b)) (lastPlace (appended item v b) (used b) i)) item-is
-        ∙ ap (cond (eqb item i) (Some (used b)))
+          lastPlace-more (appended item v b) (used b) i
+          ∙ ap (λ l. cond (eqb (itemOf l) i) (Some (used b)) (lastPlace (appended item v b) (used b) i)) (part-over-same (25 * used b) r b (omega arith))
+          ∙ ap (λ k. cond (eqb k i) (Some (used b)) (lastPlace (appended item v b) (used b) i)) item-is
+          ∙ ap (cond (eqb item i) (Some (used b)))
           (lastBy-same (λ k. itemOf (recordAt (appended item v b) k)) (λ k. itemOf (recordAt b k)) i 0 (used b)
-            (λ k h. ap itemOf (part-over-other (25 * k) 25 (25 * used b) r b (omega arith) (inl (omega arith)))))
+          (λ k h. ap itemOf (part-over-other (25 * k) 25 (25 * used b) r b (omega arith) (inl (omega arith)))));
     }
 
 -- the item of each record is one that there is
@@ -288,7 +288,7 @@ shrinks b after count n m g is made counted =
     record {
       good = subst (λ l. Good l count) (sym same) (comp .good);
       counts = counted ∙ ap (λ k. length (kept (map (recordAt b) (counting 0 k)))) is ∙ sym (comp .fewer) ∙ ap used (sym same);
-      is = same
+      is = same;
     }
 
 -- and after a record more
@@ -313,17 +313,17 @@ grows b after latest count item n v g is below room small wide index made =
       counts = omega (arith, app .more, ap used same);
       is = same;
       index = λ i h.
-        ⊎-elim
-        (λ e.
+          ⊎-elim
+          (λ e.
           ap (λ k. getD (set latest item (Some n)) k None) e
           ∙ getD-set-same latest item (Some n) None (omega arith)
           ∙ sym (last i ∙ cond-true _ (Some n) (lastPlace b n i) (eq-eqb item i (sym e))))
-        (λ apart.
+          (λ apart.
           getD-set-other latest item i (Some n) None apart
           ∙ index i h
           ∙ sym (last i ∙ cond-false _ (Some n) (lastPlace b n i) (ne-eqb item i (λ e. apart (sym e)))))
-        (cases-eq i item);
-      versions = ap (λ l. log l count) same ∙ app .after
+          (cases-eq i item);
+      versions = ap (λ l. log l count) same ∙ app .after;
     }
   where
     last : (i : ℕ) → lastPlace after (n + 1) i ≡ cond (eqb item i) (Some n) (lastPlace b n i)

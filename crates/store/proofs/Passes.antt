@@ -42,8 +42,8 @@ pub all-made : {X : Type 0} (q : X → Bool) (f : ℕ → X) (n : ℕ) → ((k :
 all-made q f n each =
     let long = length-map-counting f 0 n in
     all-from q (map f (counting 0 n)) (f 0) (λ k h.
-      let below : k < n = omega arith in
-      ap q (getD-map-counting f 0 n k k (f 0) below (omega arith)) ∙ each k below)
+    let below : k < n = omega arith in
+    ap q (getD-map-counting f 0 n k k (f 0) below (omega arith)) ∙ each k below)
 
 pub all-made-not : {X : Type 0} (q : X → Bool) (f : ℕ → X) (n k : ℕ) → k < n → q (f k) ≡ false → all-pass q (map f (counting 0 n)) ≡ false
 all-made-not q f n k below fails =
@@ -62,9 +62,9 @@ leading-from p f a (suc n) zero within passes stops = cond-false _ _ _ (ap (λ k
 leading-from p f a (suc n) (suc m) within passes stops =
     let shift : (j : ℕ) → a + 1 + j ≡ a + suc j = λ j. omega arith in
     let rest : leading p (map f (counting (a + 1) n)) ≡ m =
-      leading-from p f (a + 1) n m (omega arith)
-      (λ j below. ap (λ k. p (f k)) (shift j) ∙ passes (suc j) (omega arith))
-      (λ below. ap (λ k. p (f k)) (shift m) ∙ stops (omega arith)) in
+    leading-from p f (a + 1) n m (omega arith)
+    (λ j below. ap (λ k. p (f k)) (shift j) ∙ passes (suc j) (omega arith))
+    (λ below. ap (λ k. p (f k)) (shift m) ∙ stops (omega arith)) in
     cond-true _ _ _ (ap (λ k. p (f k)) (sym (add-zero a)) ∙ passes 0 (omega arith)) ∙ omega (arith, rest)
 
 pub leading-made :

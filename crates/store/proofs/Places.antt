@@ -51,8 +51,8 @@ pub drop-over :
 drop-over at n new buffer within past =
     let seam : ℕ = at + length new in
     let rest : drop seam (over at new buffer) ≡ drop seam buffer =
-      ap (drop seam) (sym (append-assoc (take at buffer) new (drop seam buffer)))
-      ∙ drop-at (take at buffer ++ new) (drop seam buffer) seam (length-append (take at buffer) new ∙ omega (arith, length-take-le at buffer within)) in
+    ap (drop seam) (sym (append-assoc (take at buffer) new (drop seam buffer)))
+    ∙ drop-at (take at buffer ++ new) (drop seam buffer) seam (length-append (take at buffer) new ∙ omega (arith, length-take-le at buffer within)) in
     let more : seam + (n - seam) ≡ n = omega arith in
     ap (λ k. drop k (over at new buffer)) (sym more)
     ∙ sym (drop-drop (n - seam) seam (over at new buffer))

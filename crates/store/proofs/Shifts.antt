@@ -21,13 +21,13 @@ shift-more old bytes from to size i down fits below is =
     let rest = drop-paste old to moved i (omega arith) (omega arith) in
     let apart : to + i + (from - to) ≡ from + i = omega arith in
     let byte : getD bytes (from + i) 0 ≡ getD moved i 0 =
-      ap (λ l. getD l (from + i) 0) is
-      ∙ ap (λ k. getD (paste old to moved i) k 0) (sym apart)
-      ∙ sym (getD-drop (to + i) (paste old to moved i) (from - to) 0)
-      ∙ ap (λ l. getD l (from - to) 0) rest
-      ∙ getD-drop (to + i) old (from - to) 0
-      ∙ ap (λ k. getD old k 0) apart
-      ∙ sym (getD-part from size i old below) in
+    ap (λ l. getD l (from + i) 0) is
+    ∙ ap (λ k. getD (paste old to moved i) k 0) (sym apart)
+    ∙ sym (getD-drop (to + i) (paste old to moved i) (from - to) 0)
+    ∙ ap (λ l. getD l (from - to) 0) rest
+    ∙ getD-drop (to + i) old (from - to) 0
+    ∙ ap (λ k. getD old k 0) apart
+    ∙ sym (getD-part from size i old below) in
     ap (λ v. set bytes (to + i) v) byte
     ∙ ap (λ l. set l (to + i) (getD moved i 0)) is
     ∙ paste-more old to moved i 0 (omega arith) (omega arith)

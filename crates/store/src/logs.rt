@@ -20,7 +20,11 @@ use crate::records;
 use crate::records::RECORD;
 
 // What an item has that no record names.
-const UNWRITTEN: Version = Version { value: 0, twrite: 0, tread: 0 };
+const UNWRITTEN: Version = Version {
+    value: 0,
+    twrite: 0,
+    tread: 0,
+};
 
 #[derive(Drop)]
 pub struct Log<'a> {
@@ -65,9 +69,19 @@ impl<'a> Log<'a> {
         let area = Area { bytes };
         if good {
             let latest = area.index(used);
-            Log { area, count: count as u16, used, latest }
+            Log {
+                area,
+                count: count as u16,
+                used,
+                latest,
+            }
         } else {
-            Log { area, count: 0, used: 0, latest: [None; MOST_ITEMS] }
+            Log {
+                area,
+                count: 0,
+                used: 0,
+                latest: [None; MOST_ITEMS],
+            }
         }
     }
 
@@ -112,7 +126,8 @@ impl<'a> Log<'a> {
         ensures items { λ _. ⌜ now (self .exit) .count ≡ now (self .entry) .count ⌝ }
         ensures versions { λ _. ⌜ log (now (now (self .exit) .area .bytes)) (now (self .exit) .count) ≡ set (log (now (now (self .entry) .area .bytes)) (now (self .entry) .count)) item version ⌝ }
     {
-        self.area.write(RECORD * self.used, &records::encode(item, version));
+        self.area
+            .write(RECORD * self.used, &records::encode(item, version));
         self.latest[item as usize] = Some(self.used as u16);
         self.used += 1;
     }

@@ -18,13 +18,17 @@ use crate::areas::Area;
 use crate::packed;
 
 const TAG: u8 = 0x52;
+
 const ITEM: usize = size_of::<Item>();
+
 const CONTENT: usize = ITEM + packed::SIZE;
 // the low byte of the length; the high one is 0
 const LENGTH: u8 = CONTENT as u8;
 // where the item and the version begin
 const HEAD: usize = 3;
+
 const VERSION: usize = HEAD + ITEM;
+
 pub(crate) const RECORD: usize = HEAD + CONTENT;
 
 // The item that a record is for, if its tag and its length are right.

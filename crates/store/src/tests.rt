@@ -198,7 +198,11 @@ fn puts(bytes: &mut [u8], count: u16) -> Result<(), Fail> {
     check_eq(log.count(), count)?;
     for round in 0..200u32 {
         let item = (round.wrapping_mul(round).wrapping_mul(7) % 300) as u16;
-        let version = Version { value: round, twrite: round as u64 * 3, tread: u64::MAX - round as u64 };
+        let version = Version {
+            value: round,
+            twrite: round as u64 * 3,
+            tread: u64::MAX - round as u64,
+        };
         log.put(item, version);
         table.put(item, version);
         check_eq(log.get(item), table.get(item))?;
@@ -224,43 +228,83 @@ fn log_compacts() -> Result<(), Fail> {
 fn log_bytes() -> Result<(), Fail> {
     let mut bytes = [0; 60];
     let mut log = Log::open(&mut bytes, 1);
-    log.put(0, Version { value: 1, twrite: 0, tread: 0 });
-    log.put(0, Version { value: 2, twrite: 0, tread: 0 });
+    log.put(
+        0,
+        Version {
+            value: 1,
+            twrite: 0,
+            tread: 0,
+        },
+    );
+    log.put(
+        0,
+        Version {
+            value: 2,
+            twrite: 0,
+            tread: 0,
+        },
+    );
     check(log.bytes().len() == 60)?;
     check_eq(&log.bytes()[0..25], &record(0, 1))?;
     check_eq(&log.bytes()[25..50], &record(0, 2))?;
-    log.put(0, Version { value: 3, twrite: 0, tread: 0 });
+    log.put(
+        0,
+        Version {
+            value: 3,
+            twrite: 0,
+            tread: 0,
+        },
+    );
     check(log.bytes().len() == 60)?;
     check_eq(&log.bytes()[0..25], &record(0, 2))?;
     check_eq(&log.bytes()[25..50], &record(0, 3))?;
     check_eq(&log.bytes()[50..60], &[0; 10])
 }
 
-fn counts<A: Store, B: Store>(pair: &Pair<A, B>) -> (u16, u16) {
-    (pair.first().count(), pair.second().count())
+fn valued(value: u32) -> Option<Version> {
+    Some(Version {
+        value,
+        twrite: 0,
+        tread: 0,
+    })
 }
 
-// A pair of a pair and a log, of 300 items: cut off at 256, where the log's 56th item would stand.
+// 100 items three times: cut off at 256, where the 57th of the last store would stand.
+fn nested<A: Store + Drop, B: Store + Drop, C: Store + Drop>(a: A, b: B, c: C) -> Result<(), Fail> {
+    let mut pair = Pair::new(Pair::new(a, b), c);
+    check_eq(pair.count(), 256)?;
+    for item in [0, 99, 100, 199, 200, 255] {
+        check_eq(pair.get(item), valued(0))?;
+        pair.put(
+            item,
+            Version {
+                value: item as u32 + 1,
+                twrite: 0,
+                tread: 0,
+            },
+        );
+        check_eq(pair.get(item), valued(item as u32 + 1))?;
+    }
+    pair.put(256, ONE);
+    check_eq(pair.get(256), None)?;
+    check_eq(pair.first().count(), 200)?;
+    check_eq(pair.second().count(), 100)?;
+    let (inner, last) = pair.into_parts();
+    let (first, second) = inner.into_parts();
+    check_eq(first.get(99), valued(100))?;
+    check_eq(second.get(0), valued(101))?;
+    check_eq(last.get(55), valued(256))?;
+    check_eq(last.get(56), valued(0))
+}
+
 #[test]
 fn pairs_nest() -> Result<(), Fail> {
     let mut a = [0; 2000];
     let mut b = [0; 2000];
     let mut c = [0; 2525];
-    let inner = Pair::new(Table::open(&mut a, 100), Table::open(&mut b, 100));
-    let mut pair = Pair::new(inner, Log::open(&mut c, 100));
-    check_eq(pair.count(), 256)?;
-    for item in [0, 99, 100, 199, 200, 255] {
-        check_eq(pair.get(item), Some(Version { value: 0, twrite: 0, tread: 0 }))?;
-        pair.put(item, Version { value: item as u32 + 1, twrite: 0, tread: 0 });
-        check_eq(pair.get(item), Some(Version { value: item as u32 + 1, twrite: 0, tread: 0 }))?;
-    }
-    pair.put(256, ONE);
-    check_eq(pair.get(256), None)?;
-    check_eq(counts(&pair), (200, 100))?;
-    let (inner, log) = pair.into_parts();
-    let (left, right) = inner.into_parts();
-    check_eq(left.get(99), Some(Version { value: 100, twrite: 0, tread: 0 }))?;
-    check_eq(right.get(0), Some(Version { value: 101, twrite: 0, tread: 0 }))?;
-    check_eq(log.get(55), Some(Version { value: 256, twrite: 0, tread: 0 }))?;
-    check_eq(log.get(56), Some(Version { value: 0, twrite: 0, tread: 0 }))
+    nested(
+        Table::open(&mut a, 100),
+        Table::open(&mut b, 100),
+        Log::open(&mut c, 100),
+    )
 }

@@ -13,11 +13,11 @@ pub returns-then-bytes-at-ne0 : need.returns-then-bytes-at-ne0
 returns-then-bytes-at-ne0 c =
     let here : c .args .from + (c .loop-at .at - c .args .from) ≡ c .loop-at .at = omega arith in
     let byte =
-      getD-drop (c .args .from) (c .args .bytes .now) (c .loop-at .at - c .args .from) 0
-      ∙ ap (λ k. getD (c .args .bytes .now) k 0) here in
+    getD-drop (c .args .from) (c .args .bytes .now) (c .loop-at .at - c .args .from) 0
+    ∙ ap (λ k. getD (c .args .bytes .now) k 0) here in
     sym (all-not (λ b. eqb b 0) (drop (c .args .from) (c .args .bytes .now)) (c .loop-at .at - c .args .from) 0
-      (omega (arith, length-drop (c .args .from) (c .args .bytes .now)))
-      (ne-eqb _ 0 (λ e. c .if-bytes-at-ne0 .taken (sym byte ∙ e))))
+    (omega (arith, length-drop (c .args .from) (c .args .bytes .now)))
+    (ne-eqb _ 0 (λ e. c .if-bytes-at-ne0 .taken (sym byte ∙ e))))
 
 pub loop-at-again : need.loop-at-again
 loop-at-again c =
@@ -30,4 +30,4 @@ pub returns : need.returns
 returns c =
     let long = length-drop (c .args .from) (c .args .bytes .now) in
     sym (all-from (λ b. eqb b 0) (drop (c .args .from) (c .args .bytes .now)) 0
-      (λ k below. eq-eqb _ 0 (getD-drop (c .args .from) (c .args .bytes .now) k 0 ∙ c .loop-at .inv (c .args .from + k) (omega arith) (omega arith))))
+    (λ k below. eq-eqb _ 0 (getD-drop (c .args .from) (c .args .bytes .now) k 0 ∙ c .loop-at .inv (c .args .from + k) (omega arith) (omega arith))))

@@ -14,10 +14,10 @@ use Rattle.store.proofs.records.compact.Needs.{then-names, else-names}
 indexed :
     (c : need.Joined-names)
     → getD (c .args .latest .now) (c .item .result) None
-      ≡ lastPlace (c .args .area .now .bytes .now) (c .args .used) (itemOf (recordAt (c .args .area .now .bytes .now) (c .loop-place .place)))
+    ≡ lastPlace (c .args .area .now .bytes .now) (c .args .used) (itemOf (recordAt (c .args .area .now .bytes .now) (c .loop-place .place)))
 indexed c =
     ap (λ k. getD (c .args .latest .now) k None)
-      (c .item .ensures ∙ ap itemOf (moved-is (c .args .area .now .bytes .now) (c .loop-place .area .bytes .now) (c .loop-place .place) (c .loop-place .inv .rest)))
+    (c .item .ensures ∙ ap itemOf (moved-is (c .args .area .now .bytes .now) (c .loop-place .area .bytes .now) (c .loop-place .place) (c .loop-place .inv .rest)))
     ∙ c .pre .index (c .loop-place .place) (omega arith)
 
 pub loop-place-again : need.loop-place-again
@@ -28,16 +28,16 @@ loop-place-again c =
     let place : ℕ = c .loop-place .place in
     let end : ℕ = c .loop-place .end in
     elim (c .if-names .came) [
-      then-names w ↦
-        pass-at old (over (25 * end) (part (25 * place) 25 bytes) bytes) (c .if-names .area .bytes .now) n (place + 1) (end + 1) (c .if-names .end)
-        (pass-keep old bytes n place end (c .loop-place .inv) (omega arith) (c .pre .fits) (sym (indexed c) ∙ w .if-names .ensures tt))
-        (ap (λ a. a .bytes .now) (w .area-is) ∙ w .shift .ensures)
-        (w .end-is)
+      | then-names w ↦
+          pass-at old (over (25 * end) (part (25 * place) 25 bytes) bytes) (c .if-names .area .bytes .now) n (place + 1) (end + 1) (c .if-names .end)
+          (pass-keep old bytes n place end (c .loop-place .inv) (omega arith) (c .pre .fits) (sym (indexed c) ∙ w .if-names .ensures tt))
+          (ap (λ a. a .bytes .now) (w .area-is) ∙ w .shift .ensures)
+          (w .end-is)
       | else-names w ↦
-        pass-at old bytes (c .if-names .area .bytes .now) n (place + 1) end (c .if-names .end)
-        (pass-drop old bytes n place end (c .loop-place .inv) (omega arith) (λ is. w .if-names .ensures tt (indexed c ∙ is)))
-        (ap (λ a. a .bytes .now) (w .area-is))
-        (w .end-is)
+          pass-at old bytes (c .if-names .area .bytes .now) n (place + 1) end (c .if-names .end)
+          (pass-drop old bytes n place end (c .loop-place .inv) (omega arith) (λ is. w .if-names .ensures tt (indexed c ∙ is)))
+          (ap (λ a. a .bytes .now) (w .area-is))
+          (w .end-is)
     ]
 
 pub returns : need.returns

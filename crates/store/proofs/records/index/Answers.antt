@@ -15,15 +15,16 @@ loop-place-holds c = (refl, λ item below. getD-replicate 256 item None None bel
 pub loop-place-again : need.loop-place-again
 loop-place-again c =
     let long = c .loop-place .inv .0 in
-    let small = c .pre .items (c .loop-place .place) (omega arith) in
-    (length-set _ _ _ ∙ long,
-     λ item below. ⊎-elim
-     (λ same.
-       ap (λ k. getD (set (c .loop-place .latest) k (Some (c .loop-place .place))) item None) (sym same)
-       ∙ getD-set-same (c .loop-place .latest) item _ None (omega arith)
-       ∙ sym (lastPlace-more (c .args .bytes .now) (c .loop-place .place) item ∙ cond-true _ _ _ (eq-eqb _ _ (sym (c .item-at .ensures) ∙ sym same))))
-     (λ apart.
-       getD-set-other (c .loop-place .latest) (c .item-at .result) item _ None apart
-       ∙ c .loop-place .inv .1 item below
-       ∙ sym (lastPlace-more (c .args .bytes .now) (c .loop-place .place) item ∙ cond-false _ _ _ (ne-eqb _ _ (λ e. apart (sym (c .item-at .ensures ∙ e))))))
-     (cases-eq item (c .item-at .result)))
+    let small = c .pre .items (c .loop-place .place) (omega arith) in (
+      length-set _ _ _ ∙ long,
+      λ item below. ⊎-elim
+          (λ same.
+          ap (λ k. getD (set (c .loop-place .latest) k (Some (c .loop-place .place))) item None) (sym same)
+          ∙ getD-set-same (c .loop-place .latest) item _ None (omega arith)
+          ∙ sym (lastPlace-more (c .args .bytes .now) (c .loop-place .place) item ∙ cond-true _ _ _ (eq-eqb _ _ (sym (c .item-at .ensures) ∙ sym same))))
+          (λ apart.
+          getD-set-other (c .loop-place .latest) (c .item-at .result) item _ None apart
+          ∙ c .loop-place .inv .1 item below
+          ∙ sym (lastPlace-more (c .args .bytes .now) (c .loop-place .place) item ∙ cond-false _ _ _ (ne-eqb _ _ (λ e. apart (sym (c .item-at .ensures ∙ e))))))
+          (cases-eq item (c .item-at .result)),
+    )

@@ -17,9 +17,9 @@ ghost-self c =
     let g = good-from b count (held .0) in
     let wide : count ≤ length (c .args .self .now .latest) = omega (arith, g .few, c .args .self .now .wide) in
     let done =
-      grows b (c .write .last .self .bytes .now) (c .args .self .now .latest) count (c .args .item) n (c .args .version) g (held .1) (c .pre .there) (c .pre .room)
-      (record { value = omega arith; twrite = omega arith; tread = omega arith }) wide (c .args .self .now .index)
-      (over-new (25 * n) b (c .write .ensures) (c .encode .ensures)) in
+    grows b (c .write .last .self .bytes .now) (c .args .self .now .latest) count (c .args .item) n (c .args .version) g (held .1) (c .pre .there) (c .pre .room)
+    (record { value = omega arith; twrite = omega arith; tread = omega arith }) wide (c .args .self .now .index)
+    (over-new (25 * n) b (c .write .ensures) (c .encode .ensures)) in
     (length-set _ _ _ ∙ c .args .self .now .wide, ((λ _. (from-good _ count (done .good), done .counts)), (done .index, tt)))
 
 pub returns : need.returns
@@ -31,7 +31,7 @@ returns c =
     let g = good-from b count (held .0) in
     let wide : count ≤ length (c .args .self .now .latest) = omega (arith, g .few, c .args .self .now .wide) in
     let done =
-      grows b (c .write .last .self .bytes .now) (c .args .self .now .latest) count (c .args .item) n (c .args .version) g (held .1) (c .pre .there) (c .pre .room)
-      (record { value = omega arith; twrite = omega arith; tread = omega arith }) wide (c .args .self .now .index)
-      (over-new (25 * n) b (c .write .ensures) (c .encode .ensures)) in
+    grows b (c .write .last .self .bytes .now) (c .args .self .now .latest) count (c .args .item) n (c .args .version) g (held .1) (c .pre .there) (c .pre .room)
+    (record { value = omega arith; twrite = omega arith; tread = omega arith }) wide (c .args .self .now .index)
+    (over-new (25 * n) b (c .write .ensures) (c .encode .ensures)) in
     record { bytes = done .is; items = refl; versions = done .versions }

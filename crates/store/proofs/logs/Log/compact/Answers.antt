@@ -12,12 +12,12 @@ compact-used-requires c κs =
     let held = c .args .self .now .good (c .pre) in
     let g = good-from b (c .args .self .now .count) (held .0) in
     let below : (k : ℕ) → k < c .args .self .now .used → itemOf (recordAt b k) < c .args .self .now .count =
-      λ k h. item-below b (c .args .self .now .count) k g (omega (arith, held .1)) in
+    λ k h. item-below b (c .args .self .now .count) k g (omega (arith, held .1)) in
     record {
       fits = omega (arith, used-fits b, held .1);
       short = g .short;
       items = λ k h. omega (arith, g .few, below k h);
-      index = λ k h. c .args .self .now .index (itemOf (recordAt b k)) (below k h)
+      index = λ k h. c .args .self .now .index (itemOf (recordAt b k)) (below k h);
     }
 
 pub index-self-requires : need.index-self-requires
@@ -30,7 +30,7 @@ index-self-requires c κs =
     record {
       fits = omega (arith, used-fits after, done .counts);
       short = done .good .short;
-      items = λ k h. omega (arith, done .good .few, item-below after count k (done .good) (omega (arith, done .counts)))
+      items = λ k h. omega (arith, done .good .few, item-below after count k (done .good) (omega (arith, done .counts)));
     }
 
 pub ghost-self : need.ghost-self

@@ -34,5 +34,5 @@ returns-then-self c =
       bytes = same ∙ sym (cond-true _ _ b (lt-ltb _ _ (omega (arith, held .1, c .if-self .taken))));
       items = items;
       versions = ap (λ k. log after k) items ∙ ap (λ l. log l count) same ∙ comp .same;
-      room = omega (arith, comp .frees, comp .long, ap length same, ap used same, c .compact .last .self .good (omega arith) .1)
+      room = omega (arith, comp .frees, comp .long, ap length same, ap used same, c .compact .last .self .good (omega arith) .1);
     }

@@ -12,5 +12,5 @@ index-latest-requires c κs =
     record {
       fits = c .used-used .ensures .fits;
       short = g .short;
-      items = λ k below. omega (arith, g .few, item-below (c .args .bytes .now) (c .args .count) k g (omega (arith, c .used-used .ensures .value)))
+      items = λ k below. omega (arith, g .few, item-below (c .args .bytes .now) (c .args .count) k g (omega (arith, c .used-used .ensures .value)));
     }

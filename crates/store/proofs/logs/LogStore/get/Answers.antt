@@ -18,10 +18,10 @@ returns-in-Some c =
     let held = c .args .self .now .good (omega arith) in
     c .version-at .ensures
     ∙ sym (log-get (c .args .self .now .area .bytes .now) (c .args .self .now .count) (c .args .item) (c .args .self .now .used) _ (c .if-item-self .left) (held .1)
-      (sym (c .in-Some .is) ∙ c .args .self .now .index (c .args .item) (c .if-item-self .left)))
+    (sym (c .in-Some .is) ∙ c .args .self .now .index (c .args .item) (c .if-item-self .left)))
 
 pub returns-in-None : need.returns-in-None
 returns-in-None c =
     let held = c .args .self .now .good (omega arith) in
     sym (log-get (c .args .self .now .area .bytes .now) (c .args .self .now .count) (c .args .item) (c .args .self .now .used) _ (c .if-item-self .left) (held .1)
-      (sym (c .in-None .is) ∙ c .args .self .now .index (c .args .item) (c .if-item-self .left)))
+    (sym (c .in-None .is) ∙ c .args .self .now .index (c .args .item) (c .if-item-self .left)))

@@ -10,10 +10,10 @@ returns-then-item-self c =
     record {
       versions = c .append .ensures .versions ∙ ap (λ l. set l (c .args .item) (c .args .version)) (c .make-room .ensures .versions);
       bytes =
-        c .append .ensures .bytes
-        ∙ ap (appended (c .args .item) (c .args .version)) (c .make-room .ensures .bytes)
-        ∙ sym (cond-true _ _ _ (lt-ltb _ _ (c .if-item-self .taken)));
-      items = c .append .ensures .items ∙ c .make-room .ensures .items
+          c .append .ensures .bytes
+          ∙ ap (appended (c .args .item) (c .args .version)) (c .make-room .ensures .bytes)
+          ∙ sym (cond-true _ _ _ (lt-ltb _ _ (c .if-item-self .taken)));
+      items = c .append .ensures .items ∙ c .make-room .ensures .items;
     }
 
 pub returns-else-item-self : need.returns-else-item-self
@@ -21,5 +21,5 @@ returns-else-item-self c =
     record {
       versions = sym (set-made-past _ _ _ _ (c .if-item-self .left));
       bytes = sym (cond-false _ _ _ (le-ltb _ _ (c .if-item-self .left)));
-      items = refl
+      items = refl;
     }
