@@ -4,14 +4,14 @@ use mathlib.Core.List.{List, [], _∷_, _++_, map}
 use Prim.Native.Nat.{ℕ, _+_, _-_, _*_, _≤_, _<_}
 use native.Mathlib.Nat.{zero-add}
 use native.Mathlib.Omega.{arith}
-use lib.ListN.{length, take, drop, replicate}
+use lib.ListN.{length, take, drop}
 use Rattle.std.specs.Iters.{counting}
 use Rattle.std.specs.shelf.Lists.{joined}
 use Rattle.std.specs.declared.option.Option.the-variants.{Some}
 use Rattle.std.proofs.shelf.Counted.{length-map-counting}
 use Rattle.std.proofs.shelf.Lists.{append-assoc, append-nil, drop-drop, drop-all}
 use Rattle.store.specs.Bytes.{part, over}
-use Rattle.store.specs.Log.{recordAt, lastPlace, kept, image, itemOf}
+use Rattle.store.specs.Log.{recordAt, lastPlace, kept, itemOf}
 use Rattle.store.proofs.Lasts.{turn}
 use Rattle.store.proofs.Places.{length-part, length-over, take-over, drop-over}
 
@@ -96,17 +96,12 @@ pass-at old bytes same n place end least p e f =
 
 pub record Passed (old bytes : List ℕ) (n end : ℕ) : Type 0 where
   pub count : end ≡ length (kept (firsts old n))
-  pub image-is : take (25 * end) bytes ++ replicate (length bytes - 25 * end) 0 ≡ image (kept (firsts old n)) (length old)
+  pub front : take (25 * end) bytes ≡ bytesOf (kept (firsts old n))
 
 pub pass-all : (old bytes : List ℕ) (n place end : ℕ) → Pass old bytes n place end → n ≤ place → Passed old bytes n end
 pass-all old bytes n place end p done =
     let none : drop place (firsts old n) ≡ [] = drop-all place (firsts old n) (omega (arith, length-map-counting (recordAt old) 0 n)) in
-    let count : end ≡ length (kept (firsts old n)) = omega (arith, p .count, ap (λ rs. length (kept rs)) none) in
-    let front : take (25 * end) bytes ≡ bytesOf (kept (firsts old n)) =
-    sym (append-nil (take (25 * end) bytes)) ∙ ap (λ rs. take (25 * end) bytes ++ bytesOf (kept rs)) (sym none) ∙ p .front in
     record {
-      count = count;
-      image-is =
-          ap (λ l. l ++ replicate (length bytes - 25 * end) 0) front
-          ∙ ap (λ k. bytesOf (kept (firsts old n)) ++ replicate k 0) (omega (arith, p .long, count));
+      count = omega (arith, p .count, ap (λ rs. length (kept rs)) none);
+      front = sym (append-nil (take (25 * end) bytes)) ∙ ap (λ rs. take (25 * end) bytes ++ bytesOf (kept rs)) (sym none) ∙ p .front;
     }

@@ -3,6 +3,7 @@ ghost use mathlib.Core.Path.{_≡_};
 ghost use mathlib.Core.Bool.{true};
 ghost use mathlib.Core.List.{List};
 ghost use Prim.Native.Nat.{ℕ, _+_, _*_, _≤_, _<_};
+ghost use lib.Dec.{ltb};
 ghost use lib.ListN.{length, getD, set};
 ghost use denote.Ref.{now};
 ghost use Rattle.std.specs.Results.{isOk};
@@ -105,7 +106,15 @@ impl<'a> Log<'a> {
         self.used = used;
     }
 
-    // Compacts, if no record fits any more.
+    // Whether no record fits any more.
+    fn is_full(&self) -> bool
+        requires { ⌜ now self .used ≤ 65536 ⌝ }
+        ensures { λ r. ⌜ r ≡ ltb (length (now (now (self .entry) .area .bytes))) (recordSize * (now (self .entry) .used + 1)) ⌝ }
+    {
+        self.area.bytes.len() < RECORD * (self.used + 1)
+    }
+
+    // Compacts, if the log is full.
     fn make_room(&mut self)
         requires { ⌜ 0 < now self .count ⌝ }
         ensures bytes { λ _. ⌜ now (now (self .exit) .area .bytes) ≡ roomy (now (now (self .entry) .area .bytes)) ⌝ }
@@ -113,7 +122,7 @@ impl<'a> Log<'a> {
         ensures versions { λ _. ⌜ log (now (now (self .exit) .area .bytes)) (now (self .exit) .count) ≡ log (now (now (self .entry) .area .bytes)) (now (self .entry) .count) ⌝ }
         ensures room { λ _. ⌜ recordSize * (now (self .exit) .used + 1) ≤ length (now (now (self .exit) .area .bytes)) ⌝ }
     {
-        if self.area.bytes.len() < RECORD * (self.used + 1) {
+        if self.is_full() {
             self.compact();
         }
     }
@@ -131,16 +140,16 @@ impl<'a> Log<'a> {
         self.latest[item as usize] = Some(self.used as u16);
         self.used += 1;
     }
-}
 
-pub impl Store for Log<'_> as LogStore {
-    ghost versions = { λ l. log (now (l .area .bytes)) (l .count) };
-
-    fn count(&self) -> u16 {
+    fn items(&self) -> u16
+        ensures { λ r. ⌜ r ≡ length (log (now (now (self .entry) .area .bytes)) (now (self .entry) .count)) ⌝ }
+    {
         self.count
     }
 
-    fn get(&self, item: Item) -> Option<Version> {
+    fn read(&self, item: Item) -> Option<Version>
+        ensures { λ r. ⌜ r ≡ nth (log (now (now (self .entry) .area .bytes)) (now (self .entry) .count)) item ⌝ }
+    {
         if item >= self.count {
             return None;
         }
@@ -151,7 +160,7 @@ pub impl Store for Log<'_> as LogStore {
         }
     }
 
-    fn put(&mut self, item: Item, version: Version)
+    fn write(&mut self, item: Item, version: Version)
         ensures versions { λ _. ⌜ log (now (now (self .exit) .area .bytes)) (now (self .exit) .count) ≡ set (log (now (now (self .entry) .area .bytes)) (now (self .entry) .count)) item version ⌝ }
         ensures bytes { λ _. ⌜ now (now (self .exit) .area .bytes) ≡ afterPut (now (now (self .entry) .area .bytes)) (now (self .entry) .count) item version ⌝ }
         ensures items { λ _. ⌜ now (self .exit) .count ≡ now (self .entry) .count ⌝ }
@@ -160,5 +169,26 @@ pub impl Store for Log<'_> as LogStore {
             self.make_room();
             self.append(item, version);
         }
+    }
+}
+
+pub impl Store for Log<'_> as LogStore {
+    ghost versions = { λ l. log (now (l .area .bytes)) (l .count) };
+
+    fn count(&self) -> u16 {
+        self.items()
+    }
+
+    fn get(&self, item: Item) -> Option<Version> {
+        self.read(item)
+    }
+
+    // Beside the versions: what every byte of the buffer is.
+    fn put(&mut self, item: Item, version: Version)
+        ensures versions { λ _. ⌜ log (now (now (self .exit) .area .bytes)) (now (self .exit) .count) ≡ set (log (now (now (self .entry) .area .bytes)) (now (self .entry) .count)) item version ⌝ }
+        ensures bytes { λ _. ⌜ now (now (self .exit) .area .bytes) ≡ afterPut (now (now (self .entry) .area .bytes)) (now (self .entry) .count) item version ⌝ }
+        ensures items { λ _. ⌜ now (self .exit) .count ≡ now (self .entry) .count ⌝ }
+    {
+        self.write(item, version);
     }
 }

@@ -3,7 +3,7 @@ ghost use mathlib.Core.Path.{_≡_};
 ghost use mathlib.Core.List.{List, _++_};
 ghost use Prim.Native.Nat.{_≤_, _<_};
 ghost use lib.ListN.{length, set, take};
-ghost use Rattle.store.specs.Pair.{pair};
+ghost use Rattle.store.specs.Pair.{pair, Located};
 use crate::Item;
 use crate::MOST_ITEMS;
 use crate::Store;
@@ -13,6 +13,13 @@ use crate::Version;
 pub struct Pair<A: Store, B: Store> {
     first: A,
     second: B,
+}
+
+// Which of the two stores has an item, and at which place there.
+enum Half {
+    First(Item),
+    Second(Item),
+    Past,
 }
 
 impl<A: Store, B: Store> Pair<A, B> {
@@ -43,6 +50,19 @@ impl<A: Store, B: Store> Pair<A, B> {
         let Pair { first, second } = self;
         (first, second)
     }
+
+    fn half(&self, item: Item) -> Half
+        ensures { λ r. ⌜ Located (length (A·Store .versions (now (self .entry) .first))) item r ⌝ }
+    {
+        let seam = self.first.count();
+        if item < seam {
+            Half::First(item)
+        } else if (item as usize) < MOST_ITEMS {
+            Half::Second(item - seam)
+        } else {
+            Half::Past
+        }
+    }
 }
 
 pub impl<A: Store, B: Store> Store for Pair<A, B> as PairStore {
@@ -53,13 +73,10 @@ pub impl<A: Store, B: Store> Store for Pair<A, B> as PairStore {
     }
 
     fn get(&self, item: Item) -> Option<Version> {
-        let seam = self.first.count();
-        if item < seam {
-            self.first.get(item)
-        } else if (item as usize) < MOST_ITEMS {
-            self.second.get(item - seam)
-        } else {
-            None
+        match self.half(item) {
+            Half::First(place) => self.first.get(place),
+            Half::Second(place) => self.second.get(place),
+            Half::Past => None,
         }
     }
 
@@ -70,11 +87,10 @@ pub impl<A: Store, B: Store> Store for Pair<A, B> as PairStore {
         ensures second { λ _. ⌜ (item < length (A·Store .versions (now (self .entry) .first)) → now (self .exit) .second ≡ now (self .entry) .second) ⌝ }
         ensures past { λ _. ⌜ (256 ≤ item → now (self .exit) .second ≡ now (self .entry) .second) ⌝ }
     {
-        let seam = self.first.count();
-        if item < seam {
-            self.first.put(item, version);
-        } else if (item as usize) < MOST_ITEMS {
-            self.second.put(item - seam, version);
+        match self.half(item) {
+            Half::First(place) => self.first.put(place, version),
+            Half::Second(place) => self.second.put(place, version),
+            Half::Past => {}
         }
     }
 }

@@ -6,7 +6,8 @@ ghost use lib.ListN.{length, getD};
 ghost use lib.Dec.{eqb};
 ghost use Rattle.std.specs.declared.option.Option.the-variants.{Some, None};
 ghost use mathlib.Core.List.{map};
-ghost use lib.ListN.{drop};
+ghost use lib.ListN.{drop, take};
+ghost use Rattle.std.specs.shelf.Lists.{joined};
 ghost use Rattle.std.specs.Iters.{counting};
 ghost use Rattle.std.specs.Orderings.{When};
 ghost use Rattle.std.specs.shelf.Lawful.{all-pass};
@@ -179,6 +180,27 @@ fn names(entry: Option<u16>, place: usize) -> bool
     }
 }
 
+// Moves the last record of each item to the front, in their order, and says how many these are.
+fn sift(area: &mut Area, used: usize, latest: &[Option<u16>; MOST_ITEMS]) -> usize
+    requires fits { ⌜ recordSize * used ≤ length (now (now area .bytes)) ⌝ }
+    requires short { ⌜ length (now (now area .bytes)) ≤ 65536 ⌝ }
+    requires items { ⌜ ((k : ℕ) → k < used → itemOf (recordAt (now (now area .bytes)) k) < 256) ⌝ }
+    requires index { ⌜ ((k : ℕ) → k < used → getD (now latest) (itemOf (recordAt (now (now area .bytes)) k)) None ≡ lastPlace (now (now area .bytes)) used (itemOf (recordAt (now (now area .bytes)) k))) ⌝ }
+    ensures front { λ r. ⌜ take (recordSize * r) (now (now (area .exit) .bytes)) ≡ joined (λ x. x) (kept (map (recordAt (now (now (area .entry) .bytes))) (counting 0 used))) ⌝ }
+    ensures count { λ r. ⌜ r ≡ length (kept (map (recordAt (now (now (area .entry) .bytes))) (counting 0 used))) ⌝ }
+    ensures fits { λ r. ⌜ recordSize * r ≤ length (now (now (area .exit) .bytes)) ⌝ }
+    ensures same { λ _. ⌜ length (now (now (area .exit) .bytes)) ≡ length (now (now (area .entry) .bytes)) ⌝ }
+{
+    let mut end = 0;
+    for place in 0..used {
+        if names(latest[area.item(place) as usize], place) {
+            area.shift(RECORD * place, RECORD * end, RECORD);
+            end += 1;
+        }
+    }
+    end
+}
+
 // Keeps the last record of each item, in their order, zeroes what comes after them, and says how many are kept.
 pub(crate) fn compact(area: &mut Area, used: usize, latest: &[Option<u16>; MOST_ITEMS]) -> usize
     requires fits { ⌜ recordSize * used ≤ length (now (now area .bytes)) ⌝ }
@@ -188,13 +210,7 @@ pub(crate) fn compact(area: &mut Area, used: usize, latest: &[Option<u16>; MOST_
     ensures bytes { λ _. ⌜ now (now (area .exit) .bytes) ≡ image (kept (map (recordAt (now (now (area .entry) .bytes))) (counting 0 used))) (length (now (now (area .entry) .bytes))) ⌝ }
     ensures count { λ r. ⌜ r ≡ length (kept (map (recordAt (now (now (area .entry) .bytes))) (counting 0 used))) ⌝ }
 {
-    let mut end = 0;
-    for place in 0..used {
-        if names(latest[area.item(place) as usize], place) {
-            area.shift(RECORD * place, RECORD * end, RECORD);
-            end += 1;
-        }
-    }
+    let end = sift(area, used, latest);
     area.clear(RECORD * end);
     end
 }

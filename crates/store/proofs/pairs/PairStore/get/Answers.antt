@@ -1,20 +1,23 @@
 use mathlib.Core.Path.{sym, ap, _∙_}
-use Prim.Native.Nat.{_-_}
 use native.Mathlib.Omega.{arith}
+use lib.ListN.{length}
 use Rattle.std.specs.shelf.Maps.{nth}
 use Rattle.store.proofs.PairLaws.{nth-pair-first, nth-pair-second, nth-pair-past}
 use Rattle.store.proofs.pairs.PairStore.get.Needs as need
 
-pub returns-then-item-seam : need.returns-then-item-seam
-returns-then-item-seam g c =
+pub returns-in-First : need.returns-in-First
+returns-in-First g c =
+    let at = c .in-First .ensures tt in
     c .get .ensures
-    ∙ sym (nth-pair-first (g .A·Store .versions (c .args .self .now .first)) (g .B·Store .versions (c .args .self .now .second)) (c .args .item) (g .A·Store·met .few (c .args .self .now .first)) (omega arith))
+    ∙ ap (nth (g .A·Store .versions (c .args .self .now .first))) (at .0)
+    ∙ sym (nth-pair-first (g .A·Store .versions (c .args .self .now .first)) (g .B·Store .versions (c .args .self .now .second)) (c .args .item) (g .A·Store·met .few (c .args .self .now .first)) (at .1))
 
-pub returns-then-item-lt-MOST-ITEMS : need.returns-then-item-lt-MOST-ITEMS
-returns-then-item-lt-MOST-ITEMS g c =
-    c .get-then-item-lt-MOST-ITEMS .ensures
-    ∙ ap (λ k. nth (g .B·Store .versions (c .args .self .now .second)) (c .args .item - k)) (c .count-seam .ensures)
-    ∙ sym (nth-pair-second (g .A·Store .versions (c .args .self .now .first)) (g .B·Store .versions (c .args .self .now .second)) (c .args .item) (omega arith) (c .if-item-lt-MOST-ITEMS .taken))
+pub returns-in-Second : need.returns-in-Second
+returns-in-Second g c =
+    let at = c .in-Second .ensures tt in
+    c .get-in-Second .ensures
+    ∙ ap (nth (g .B·Store .versions (c .args .self .now .second))) (omega (arith, at .0))
+    ∙ sym (nth-pair-second (g .A·Store .versions (c .args .self .now .first)) (g .B·Store .versions (c .args .self .now .second)) (c .args .item) (omega (arith, at .0)) (at .1))
 
-pub returns-else-item-lt-MOST-ITEMS : need.returns-else-item-lt-MOST-ITEMS
-returns-else-item-lt-MOST-ITEMS g c = sym (nth-pair-past (g .A·Store .versions (c .args .self .now .first)) (g .B·Store .versions (c .args .self .now .second)) (c .args .item) (c .if-item-lt-MOST-ITEMS .left))
+pub returns-in-Past : need.returns-in-Past
+returns-in-Past g c = sym (nth-pair-past (g .A·Store .versions (c .args .self .now .first)) (g .B·Store .versions (c .args .self .now .second)) (c .args .item) (c .in-Past .ensures tt .1))

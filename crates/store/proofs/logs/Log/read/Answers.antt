@@ -2,7 +2,7 @@ use mathlib.Core.Path.{sym, _∙_}
 use native.Mathlib.Omega.{arith}
 use Rattle.store.proofs.LogLaws.{log-get, last-fits}
 use Rattle.store.proofs.Made.{nth-made-past}
-use Rattle.store.proofs.logs.LogStore.get.Needs as need
+use Rattle.store.proofs.logs.Log.read.Needs as need
 
 pub returns-then-item-self : need.returns-then-item-self
 returns-then-item-self c = sym (nth-made-past _ _ _ (c .if-item-self .taken))

@@ -3,7 +3,7 @@ use lib.ListN.{set}
 use Rattle.std.proofs.shelf.Tests.{cond-true, cond-false, lt-ltb, le-ltb}
 use Rattle.store.specs.Log.{log, appended}
 use Rattle.store.proofs.Made.{set-made-past}
-use Rattle.store.proofs.logs.LogStore.put.Needs as need
+use Rattle.store.proofs.logs.Log.write.Needs as need
 
 pub returns-then-item-self : need.returns-then-item-self
 returns-then-item-self c =

@@ -7,8 +7,8 @@ use Rattle.store.specs.Bytes.{part, over}
 use Rattle.store.specs.Log.{lastPlace, itemOf, recordAt}
 use native.Mathlib.Omega.{arith}
 use Rattle.store.proofs.Compacts.{moved-is, pass-at, pass-drop, pass-keep, pass-all}
-use Rattle.store.proofs.records.compact.Needs as need
-use Rattle.store.proofs.records.compact.Needs.{then-names, else-names}
+use Rattle.store.proofs.records.sift.Needs as need
+use Rattle.store.proofs.records.sift.Needs.{then-names, else-names}
 
 -- what the index says of the record that the loop has come to
 indexed :
@@ -43,4 +43,4 @@ loop-place-again c =
 pub returns : need.returns
 returns c =
     let done = pass-all (c .args .area .now .bytes .now) (c .loop-place .area .bytes .now) (c .args .used) (c .loop-place .place) (c .loop-place .end) (c .loop-place .inv) (omega arith) in
-    record { bytes = c .clear .ensures ∙ done .image-is; count = done .count }
+    record { front = done .front; count = done .count; fits = omega (arith, c .pre .fits); same = c .loop-place .inv .long }
