@@ -15,7 +15,7 @@ use Rattle.std.specs.shelf.Lists.{countBy, sumBy}
 use Rattle.std.specs.declared.option.Option.{Option}
 use Rattle.std.specs.declared.option.Option.the-variants.{Some, None}
 use Rattle.std.proofs.shelf.Counted.{length-map-counting, getD-map-counting}
-use Rattle.std.proofs.shelf.Lists.{map-append, drop-at, drop-drop}
+use Rattle.std.proofs.shelf.Lists.{map-append, drop-at, drop-drop, getD-set-same, getD-set-other}
 use Rattle.std.proofs.shelf.Sums.{sumBy-set, sumBy-cons, countBy-le-length}
 use Rattle.std.proofs.shelf.Tests.{cases-bool, cases-eq, eqb-true, ltb-true, eq-eqb, ne-eqb, cond-true, cond-false, and-parts, and-from}
 use Rattle.store.specs.Log.{lastBy, lastPlace, kept, itemOf, recordAt}
@@ -223,3 +223,20 @@ turn f n place below =
           ∙ cond-true _ _ _ (flag ∙ one-later (lastBy itemAt key tail) (lastBy itemAt key front) (lastBy itemAt key (counting 0 n)) place found isnt)
           ∙ ap kept (sym after);
     }
+
+-- an entry of the index, once the last record of an item is noted
+pub noted :
+    (latest : List (Option ℕ)) (item n i : ℕ) (old new : Option ℕ) → item < length latest
+    → getD latest i None ≡ old → new ≡ cond (eqb item i) (Some n) old
+    → getD (set latest item (Some n)) i None ≡ new
+noted latest item n i old new within was is =
+    ⊎-elim
+    (λ same.
+    ap (λ k. getD (set latest item (Some n)) k None) same
+    ∙ getD-set-same latest item (Some n) None within
+    ∙ sym (is ∙ cond-true _ (Some n) old (eq-eqb item i (sym same))))
+    (λ apart.
+    getD-set-other latest item i (Some n) None apart
+    ∙ was
+    ∙ sym (is ∙ cond-false _ (Some n) old (ne-eqb item i (λ e. apart (sym e)))))
+    (cases-eq i item)

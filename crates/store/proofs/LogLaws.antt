@@ -2,7 +2,7 @@
 use mathlib.Core.Path.{_≡_, refl, sym, ap, _∙_, subst}
 use mathlib.Core.Bool.{Bool, true, false, cond, not, _&&_, _||_}
 use mathlib.Core.List.{List, [], _∷_, _++_, map}
-use mathlib.Core.Logic.{inl, ⊎-elim}
+use mathlib.Core.Logic.{inl}
 use Prim.Native.Nat.{ℕ, _+_, _-_, _*_, _/_, _≤_, _<_}
 use native.Mathlib.Omega.{arith}
 use lib.Dec.{eqb, ltb}
@@ -18,9 +18,9 @@ use Rattle.std.specs.declared.option.Option.the-variants.{Some, None}
 use Rattle.std.specs.declared.result.Result.{Result}
 use Rattle.std.specs.declared.result.Result.the-variants.{Ok, Err}
 use Rattle.std.proofs.shelf.Counted.{length-map-counting}
-use Rattle.std.proofs.shelf.Lists.{take-at, drop-at, getD-replicate, length-append, length-replicate, length-push, getD-set-same, getD-set-other}
+use Rattle.std.proofs.shelf.Lists.{take-at, drop-at, getD-replicate, length-append, length-replicate, length-push}
 use Rattle.std.proofs.shelf.Sums.{leading-le-length}
-use Rattle.std.proofs.shelf.Tests.{true≢false, cond-true, cond-false, cases-bool, cases-eq, and-parts, and-from, or-parts, or-from, not-from-true, not-true, eqb-true, eqb-false, eq-eqb, ne-eqb, ltb-true, ltb-false, lt-ltb, le-ltb}
+use Rattle.std.proofs.shelf.Tests.{true≢false, cond-true, cond-false, and-parts, and-from, or-parts, or-from, not-from-true, not-true, eqb-true, eqb-false, eq-eqb, ne-eqb, ltb-true, ltb-false, lt-ltb, le-ltb}
 use Rattle.store.specs.declared.Version.{Version}
 use Rattle.store.specs.declared.faults.Fault.{Fault}
 use Rattle.store.specs.declared.faults.Fault.the-variants.{Count, Length, Record, Trailing}
@@ -30,7 +30,7 @@ use Rattle.store.specs.Log.{checked, used, records, recordAt, sound, headed, i
 use Rattle.store.specs.Packed.{packed, unpacked}
 use Rattle.store.proofs.Ends.{tag-is}
 use Rattle.store.proofs.Images.{full, length-image, length-joined, used-image, records-image, image-push, image-is}
-use Rattle.store.proofs.Lasts.{lastBy-append, lastBy-map, lastBy-kept, all-kept, length-kept, or-cond, lastPlace-more, lastBy-same, lastBy-within}
+use Rattle.store.proofs.Lasts.{lastBy-append, lastBy-map, lastBy-kept, all-kept, length-kept, or-cond, lastPlace-more, lastBy-same, lastBy-within, noted}
 use Rattle.store.proofs.Made.{nth-made, set-made, map-same}
 use Rattle.store.proofs.Numbers.{length-bytesOf, numberIn-bytesOf}
 use Rattle.store.proofs.Passes.{all-at, all-from, all-made, all-made-at, all-push}
@@ -312,17 +312,7 @@ grows b after latest count item n v g is below room small wide index made =
       good = subst (λ l. Good l count) (sym same) (app .good);
       counts = omega (arith, app .more, ap used same);
       is = same;
-      index = λ i h.
-          ⊎-elim
-          (λ e.
-          ap (λ k. getD (set latest item (Some n)) k None) e
-          ∙ getD-set-same latest item (Some n) None (omega arith)
-          ∙ sym (last i ∙ cond-true _ (Some n) (lastPlace b n i) (eq-eqb item i (sym e))))
-          (λ apart.
-          getD-set-other latest item i (Some n) None apart
-          ∙ index i h
-          ∙ sym (last i ∙ cond-false _ (Some n) (lastPlace b n i) (ne-eqb item i (λ e. apart (sym e)))))
-          (cases-eq i item);
+      index = λ i h. noted latest item n i (lastPlace b n i) (lastPlace after (n + 1) i) (omega arith) (index i h) (last i);
       versions = ap (λ l. log l count) same ∙ app .after;
     }
   where

@@ -111,7 +111,7 @@ impl<'a> Log<'a> {
         requires { ⌜ now self .used ≤ 65536 ⌝ }
         ensures { λ r. ⌜ r ≡ ltb (length (now (now (self .entry) .area .bytes))) (recordSize * (now (self .entry) .used + 1)) ⌝ }
     {
-        self.area.bytes.len() < RECORD * (self.used + 1)
+        RECORD * (self.used + 1) > self.area.bytes.len()
     }
 
     // Compacts, if the log is full.
@@ -137,8 +137,9 @@ impl<'a> Log<'a> {
     {
         self.area
             .write(RECORD * self.used, &records::encode(item, version));
-        self.latest[item as usize] = Some(self.used as u16);
-        self.used += 1;
+        let used = self.used;
+        records::note(&mut self.latest, item, used);
+        self.used = used + 1;
     }
 
     fn items(&self) -> u16

@@ -3,6 +3,7 @@ ghost use mathlib.Core.Path.{_≡_};
 ghost use mathlib.Core.List.{List, _++_};
 ghost use Prim.Native.Nat.{_≤_, _<_};
 ghost use lib.ListN.{length, set, take};
+ghost use Rattle.std.specs.shelf.Maps.{nth};
 ghost use Rattle.store.specs.Pair.{pair, Located};
 use crate::Item;
 use crate::MOST_ITEMS;
@@ -63,16 +64,16 @@ impl<A: Store, B: Store> Pair<A, B> {
             Half::Past
         }
     }
-}
 
-pub impl<A: Store, B: Store> Store for Pair<A, B> as PairStore {
-    ghost versions = { λ p. pair (A·Store .versions (p .first)) (B·Store .versions (p .second)) };
-
-    fn count(&self) -> u16 {
+    fn items(&self) -> u16
+        ensures { λ r. ⌜ r ≡ length (pair (A·Store .versions (now (self .entry) .first)) (B·Store .versions (now (self .entry) .second))) ⌝ }
+    {
         (self.first.count() + self.second.count()).min(MOST_ITEMS as u16)
     }
 
-    fn get(&self, item: Item) -> Option<Version> {
+    fn read(&self, item: Item) -> Option<Version>
+        ensures { λ r. ⌜ r ≡ nth (pair (A·Store .versions (now (self .entry) .first)) (B·Store .versions (now (self .entry) .second))) item ⌝ }
+    {
         match self.half(item) {
             Half::First(place) => self.first.get(place),
             Half::Second(place) => self.second.get(place),
@@ -80,8 +81,7 @@ pub impl<A: Store, B: Store> Store for Pair<A, B> as PairStore {
         }
     }
 
-    // At most one of the two is put to, and past the last place none.
-    fn put(&mut self, item: Item, version: Version)
+    fn write(&mut self, item: Item, version: Version)
         ensures versions { λ _. ⌜ pair (A·Store .versions (now (self .exit) .first)) (B·Store .versions (now (self .exit) .second)) ≡ set (pair (A·Store .versions (now (self .entry) .first)) (B·Store .versions (now (self .entry) .second))) item version ⌝ }
         ensures first { λ _. ⌜ (length (A·Store .versions (now (self .entry) .first)) ≤ item → now (self .exit) .first ≡ now (self .entry) .first) ⌝ }
         ensures second { λ _. ⌜ (item < length (A·Store .versions (now (self .entry) .first)) → now (self .exit) .second ≡ now (self .entry) .second) ⌝ }
@@ -92,5 +92,27 @@ pub impl<A: Store, B: Store> Store for Pair<A, B> as PairStore {
             Half::Second(place) => self.second.put(place, version),
             Half::Past => {}
         }
+    }
+}
+
+pub impl<A: Store, B: Store> Store for Pair<A, B> as PairStore {
+    ghost versions = { λ p. pair (A·Store .versions (p .first)) (B·Store .versions (p .second)) };
+
+    fn count(&self) -> u16 {
+        self.items()
+    }
+
+    fn get(&self, item: Item) -> Option<Version> {
+        self.read(item)
+    }
+
+    // Beside the versions: at most one of the two is put to, and past the last place none.
+    fn put(&mut self, item: Item, version: Version)
+        ensures versions { λ _. ⌜ pair (A·Store .versions (now (self .exit) .first)) (B·Store .versions (now (self .exit) .second)) ≡ set (pair (A·Store .versions (now (self .entry) .first)) (B·Store .versions (now (self .entry) .second))) item version ⌝ }
+        ensures first { λ _. ⌜ (length (A·Store .versions (now (self .entry) .first)) ≤ item → now (self .exit) .first ≡ now (self .entry) .first) ⌝ }
+        ensures second { λ _. ⌜ (item < length (A·Store .versions (now (self .entry) .first)) → now (self .exit) .second ≡ now (self .entry) .second) ⌝ }
+        ensures past { λ _. ⌜ (256 ≤ item → now (self .exit) .second ≡ now (self .entry) .second) ⌝ }
+    {
+        self.write(item, version);
     }
 }

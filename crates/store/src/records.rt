@@ -6,7 +6,7 @@ ghost use lib.ListN.{length, getD};
 ghost use lib.Dec.{eqb};
 ghost use Rattle.std.specs.declared.option.Option.the-variants.{Some, None};
 ghost use mathlib.Core.List.{map};
-ghost use lib.ListN.{drop, take};
+ghost use lib.ListN.{drop, set, take};
 ghost use Rattle.std.specs.shelf.Lists.{joined};
 ghost use Rattle.std.specs.Iters.{counting};
 ghost use Rattle.std.specs.Orderings.{When};
@@ -136,6 +136,15 @@ pub(crate) fn version_at(bytes: &[u8], place: usize) -> Option<Version>
     packed::unpack(&record_at(bytes, place)[VERSION..RECORD])
 }
 
+// A record at a place behind all others: it is the last of its item.
+pub(crate) fn note(latest: &mut [Option<u16>; MOST_ITEMS], item: Item, place: usize)
+    requires there { ⌜ item < 256 ⌝ }
+    requires fits { ⌜ place < 65536 ⌝ }
+    ensures { λ _. ⌜ now (latest .exit) ≡ set (now (latest .entry)) item (Some place) ⌝ }
+{
+    latest[item as usize] = Some(place as u16);
+}
+
 // The place of each item's last record.
 fn index(bytes: &[u8], used: usize) -> [Option<u16>; MOST_ITEMS]
     requires fits { ⌜ recordSize * used ≤ length (now bytes) ⌝ }
@@ -146,7 +155,7 @@ fn index(bytes: &[u8], used: usize) -> [Option<u16>; MOST_ITEMS]
 {
     let mut latest = [None; MOST_ITEMS];
     for place in 0..used {
-        latest[item_at(bytes, place) as usize] = Some(place as u16);
+        note(&mut latest, item_at(bytes, place), place);
     }
     latest
 }

@@ -1,8 +1,9 @@
-use mathlib.Core.Path.{_≡_, refl, _∙_}
+use mathlib.Core.Path.{_≡_, refl, ap, _∙_}
 use mathlib.Core.List.{List}
 use Prim.Native.Nat.{ℕ, _*_, _≤_}
 use native.Mathlib.Omega.{arith}
-use lib.ListN.{length}
+use lib.ListN.{length, getD}
+use Rattle.std.specs.declared.option.Option.the-variants.{None}
 use Rattle.std.proofs.shelf.Lists.{length-set}
 use Rattle.store.proofs.LogLaws.{Grown, good-from, from-good, grows}
 use Rattle.store.proofs.Places.{over-new}
@@ -19,8 +20,13 @@ ghost-self c =
     let done =
     grows b (c .write .last .self .bytes .now) (c .args .self .now .latest) count (c .args .item) n (c .args .version) g (held .1) (c .pre .there) (c .pre .room)
     (record { value = omega arith; twrite = omega arith; tread = omega arith }) wide (c .args .self .now .index)
-    (over-new (25 * n) b (c .write .ensures) (c .encode .ensures)) in
-    (length-set _ _ _ ∙ c .args .self .now .wide, ((λ _. (from-good _ count (done .good), done .counts)), (done .index, tt)))
+    (over-new (25 * n) b (c .write .ensures) (c .encode .ensures)) in (
+      ap length (c .note .ensures) ∙ length-set _ _ _ ∙ c .args .self .now .wide,
+      (
+        (λ _. (from-good _ count (done .good), done .counts)),
+        ((λ i below. ap (λ l. getD l i None) (c .note .ensures) ∙ done .index i below), tt),
+      ),
+    )
 
 pub returns : need.returns
 returns c =

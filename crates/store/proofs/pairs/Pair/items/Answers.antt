@@ -1,6 +1,6 @@
 use native.Mathlib.Omega.{arith}
 use Rattle.store.proofs.PairLaws.{length-pair}
-use Rattle.store.proofs.pairs.PairStore.count.Needs as need
+use Rattle.store.proofs.pairs.Pair.items.Needs as need
 
 pub returns : need.returns
 returns g c =

@@ -3,7 +3,7 @@ use native.Mathlib.Omega.{arith}
 use lib.ListN.{length, set}
 use Rattle.store.specs.Pair.{pair}
 use Rattle.store.proofs.PairLaws.{set-pair-first, set-pair-second, set-pair-past}
-use Rattle.store.proofs.pairs.PairStore.put.Needs as need
+use Rattle.store.proofs.pairs.Pair.write.Needs as need
 
 pub returns-in-First : need.returns-in-First
 returns-in-First g c =

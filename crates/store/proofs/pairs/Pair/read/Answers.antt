@@ -3,7 +3,7 @@ use native.Mathlib.Omega.{arith}
 use lib.ListN.{length}
 use Rattle.std.specs.shelf.Maps.{nth}
 use Rattle.store.proofs.PairLaws.{nth-pair-first, nth-pair-second, nth-pair-past}
-use Rattle.store.proofs.pairs.PairStore.get.Needs as need
+use Rattle.store.proofs.pairs.Pair.read.Needs as need
 
 pub returns-in-First : need.returns-in-First
 returns-in-First g c =
