@@ -2,3 +2,5 @@ pub mod Bytes
 pub mod Packed
 pub mod Faults
 pub mod Table
+pub mod Log
+pub mod Pair

@@ -8,10 +8,17 @@ ghost use Rattle.store.specs.declared.Version.{Version};
 
 mod areas;
 mod faults;
+mod logs;
 mod packed;
+mod pairs;
+mod records;
 mod tables;
 
 pub use faults::Fault;
+pub use logs::Log;
+pub use logs::LogStore;
+pub use pairs::Pair;
+pub use pairs::PairStore;
 pub use tables::Table;
 pub use tables::TableStore;
 

@@ -62,16 +62,16 @@ impl<'a> Table<'a> {
     {
         self.area.bytes
     }
-}
 
-pub impl Store for Table<'_> as TableStore {
-    ghost versions = { λ t. table (now (t .area .bytes)) (t .count) };
-
-    fn count(&self) -> u16 {
+    fn items(&self) -> u16
+        ensures { λ r. ⌜ r ≡ length (table (now (now (self .entry) .area .bytes)) (now (self .entry) .count)) ⌝ }
+    {
         self.count
     }
 
-    fn get(&self, item: Item) -> Option<Version> {
+    fn read(&self, item: Item) -> Option<Version>
+        ensures { λ r. ⌜ r ≡ nth (table (now (now (self .entry) .area .bytes)) (now (self .entry) .count)) item ⌝ }
+    {
         if item >= self.count {
             return None;
         }
@@ -79,7 +79,7 @@ pub impl Store for Table<'_> as TableStore {
         packed::unpack(&self.area.bytes[at..at + RECORD])
     }
 
-    fn put(&mut self, item: Item, version: Version)
+    fn write(&mut self, item: Item, version: Version)
         ensures versions { λ _. ⌜ table (now (now (self .exit) .area .bytes)) (now (self .exit) .count) ≡ set (table (now (now (self .entry) .area .bytes)) (now (self .entry) .count)) item version ⌝ }
         ensures bytes { λ _. ⌜ now (now (self .exit) .area .bytes) ≡ afterPut (now (now (self .entry) .area .bytes)) (now (self .entry) .count) item version ⌝ }
         ensures items { λ _. ⌜ now (self .exit) .count ≡ now (self .entry) .count ⌝ }
@@ -88,5 +88,26 @@ pub impl Store for Table<'_> as TableStore {
             self.area
                 .write(RECORD * item as usize, &packed::pack(version));
         }
+    }
+}
+
+pub impl Store for Table<'_> as TableStore {
+    ghost versions = { λ t. table (now (t .area .bytes)) (t .count) };
+
+    fn count(&self) -> u16 {
+        self.items()
+    }
+
+    fn get(&self, item: Item) -> Option<Version> {
+        self.read(item)
+    }
+
+    // Beside the versions: what every byte of the buffer is.
+    fn put(&mut self, item: Item, version: Version)
+        ensures versions { λ _. ⌜ table (now (now (self .exit) .area .bytes)) (now (self .exit) .count) ≡ set (table (now (now (self .entry) .area .bytes)) (now (self .entry) .count)) item version ⌝ }
+        ensures bytes { λ _. ⌜ now (now (self .exit) .area .bytes) ≡ afterPut (now (now (self .entry) .area .bytes)) (now (self .entry) .count) item version ⌝ }
+        ensures items { λ _. ⌜ now (self .exit) .count ≡ now (self .entry) .count ⌝ }
+    {
+        self.write(item, version);
     }
 }

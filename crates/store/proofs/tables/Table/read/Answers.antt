@@ -8,7 +8,7 @@ use Rattle.store.specs.Bytes.{part}
 use Rattle.store.specs.Packed.{unpacked}
 use Rattle.store.proofs.Made.{nth-made, nth-made-past}
 use Rattle.store.proofs.Places.{length-part}
-use Rattle.store.proofs.tables.TableStore.get.Needs as need
+use Rattle.store.proofs.tables.Table.read.Needs as need
 
 pub returns-then-item-self : need.returns-then-item-self
 returns-then-item-self c = sym (nth-made-past _ _ _ (c .if-item-self .taken))

@@ -8,7 +8,7 @@ use Rattle.store.specs.Table.{table}
 use Rattle.store.proofs.Made.{set-made-past}
 use Rattle.store.proofs.Places.{length-over, over-new}
 use Rattle.store.proofs.TableLaws.{table-put}
-use Rattle.store.proofs.tables.TableStore.put.Needs as need
+use Rattle.store.proofs.tables.Table.write.Needs as need
 
 pub ghost-self : need.ghost-self
 ghost-self c =
