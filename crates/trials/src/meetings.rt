@@ -4,6 +4,10 @@ use service::RefusalDebug;
 use service::RefusalPartialEq;
 use service::Service;
 use std::test::*;
+use store::Log;
+use store::LogStore;
+use store::Pair;
+use store::PairStore;
 use store::Store;
 use store::Table;
 use store::TableStore;
@@ -83,4 +87,31 @@ fn full_queues_on<S: Store + Drop>(store: S) -> Result<(), Fail> {
 fn full_queues() -> Result<(), Fail> {
     let mut buffer = [0u8; 160];
     full_queues_on(Table::open(&mut buffer, 8))
+}
+
+// The same over the other stores.
+
+fn meetings_on_a_pair<A: Store + Drop, B: Store + Drop>(first: A, second: B) -> Result<(), Fail> {
+    a_late_write_is_dropped_and_its_read_counts_on(Pair::new(first, second))
+}
+
+#[test]
+fn over_a_log() -> Result<(), Fail> {
+    let mut two = [0u8; 75];
+    a_lost_update_is_rejected_on(Log::open(&mut two, 2))?;
+    let mut one = [0u8; 50];
+    a_late_write_is_dropped_and_its_read_counts_on(Log::open(&mut one, 1))?;
+    let mut eight = [0u8; 225];
+    full_queues_on(Log::open(&mut eight, 8))
+}
+
+#[test]
+fn over_a_pair() -> Result<(), Fail> {
+    let mut table = [0u8; 20];
+    let mut log = [0u8; 60];
+    meetings_on_a_pair(Table::open(&mut table, 1), Log::open(&mut log, 1))?;
+    // A refused table has no items, and so the pair is the log.
+    let mut short = [0u8; 19];
+    let mut other = [0u8; 60];
+    meetings_on_a_pair(Table::open(&mut short, 1), Log::open(&mut other, 1))
 }
