@@ -4,3 +4,4 @@ pub mod Faults
 pub mod Table
 pub mod Log
 pub mod Pair
+pub mod Few

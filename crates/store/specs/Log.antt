@@ -76,9 +76,12 @@ abbrev pub versionFrom : List ℕ → Option ℕ → Version
 versionFrom buffer None = zero-version
 versionFrom buffer (Some place) = versionOf (recordAt buffer place)
 
+abbrev pub versionOfItem : List ℕ → ℕ → Version
+versionOfItem buffer item = versionFrom buffer (lastPlace buffer (used buffer) item)
+
 -- what a log means
 abbrev pub log : List ℕ → ℕ → List Version
-log buffer count = map (λ item. versionFrom buffer (lastPlace buffer (used buffer) item)) (counting 0 count)
+log buffer count = map (versionOfItem buffer) (counting 0 count)
 
 -- the records that have no later one for their item
 abbrev pub kept : List (List ℕ) → List (List ℕ)

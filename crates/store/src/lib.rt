@@ -46,7 +46,7 @@ pub const MOST_BYTES: usize = 65536;
 pub trait Store {
     ghost versions: { Self → List Version };
 
-    law few: { (s : Self) → length (versions s) ≤ 256 };
+    ghost few: { (s : Self) → length (versions s) ≤ 256 };
 
     fn count(&self) -> u16
         ensures { λ r. ⌜ r ≡ length (versions (now (self .entry))) ⌝ };

@@ -9,7 +9,8 @@ ghost use denote.Ref.{now};
 ghost use Rattle.std.specs.Results.{isOk};
 ghost use Rattle.std.specs.declared.option.Option.the-variants.{None};
 ghost use Rattle.std.specs.shelf.Maps.{nth};
-ghost use Rattle.store.specs.Log.{recordSize, log, used as usedIn, lastPlace, afterPut, appended, compacted, roomy, checked, opened};
+ghost use Rattle.store.specs.Few.{few-made};
+ghost use Rattle.store.specs.Log.{recordSize, log, versionOfItem, used as usedIn, lastPlace, afterPut, appended, compacted, roomy, checked, opened};
 use crate::Item;
 use crate::MOST_BYTES;
 use crate::MOST_ITEMS;
@@ -34,6 +35,7 @@ pub struct Log<'a> {
     // how many records there are, and the place of each item's last one
     used: usize,
     latest: [Option<u16>; MOST_ITEMS],
+    ghost few: { count ≤ 256 },
     ghost wide: { length latest ≡ 256 },
     ghost good: { (0 < count → (isOk (checked (now (area .bytes)) count) ≡ true) × (used ≡ usedIn (now (area .bytes)))) },
     ghost index: { ((item : ℕ) → item < count → getD latest item None ≡ lastPlace (now (area .bytes)) used item) },
@@ -175,6 +177,8 @@ impl<'a> Log<'a> {
 
 pub impl Store for Log<'_> as LogStore {
     ghost versions = { λ l. log (now (l .area .bytes)) (l .count) };
+
+    ghost few = { λ l. few-made (versionOfItem (now (l .area .bytes))) (l .count) (l .few) };
 
     fn count(&self) -> u16 {
         self.items()

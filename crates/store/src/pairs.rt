@@ -4,6 +4,7 @@ ghost use mathlib.Core.List.{List, _++_};
 ghost use Prim.Native.Nat.{_≤_, _<_};
 ghost use lib.ListN.{length, set, take};
 ghost use Rattle.std.specs.shelf.Maps.{nth};
+ghost use Rattle.store.specs.Few.{few-pair};
 ghost use Rattle.store.specs.Pair.{pair, Located};
 use crate::Item;
 use crate::MOST_ITEMS;
@@ -97,6 +98,8 @@ impl<A: Store, B: Store> Pair<A, B> {
 
 pub impl<A: Store, B: Store> Store for Pair<A, B> as PairStore {
     ghost versions = { λ p. pair (A·Store .versions (p .first)) (B·Store .versions (p .second)) };
+
+    ghost few = { λ p. few-pair (A·Store .versions (p .first)) (B·Store .versions (p .second)) };
 
     fn count(&self) -> u16 {
         self.items()

@@ -6,7 +6,8 @@ ghost use lib.ListN.{length, set};
 ghost use denote.Ref.{now};
 ghost use Rattle.std.specs.shelf.Maps.{nth};
 ghost use Rattle.store.specs.Packed.{versionSize};
-ghost use Rattle.store.specs.Table.{table, afterPut, checked, opened};
+ghost use Rattle.store.specs.Few.{few-made};
+ghost use Rattle.store.specs.Table.{table, versionAt, afterPut, checked, opened};
 use crate::Item;
 use crate::MOST_BYTES;
 use crate::MOST_ITEMS;
@@ -93,6 +94,8 @@ impl<'a> Table<'a> {
 
 pub impl Store for Table<'_> as TableStore {
     ghost versions = { λ t. table (now (t .area .bytes)) (t .count) };
+
+    ghost few = { λ t. few-made (versionAt (now (t .area .bytes))) (t .count) (t .few) };
 
     fn count(&self) -> u16 {
         self.items()

@@ -21,10 +21,13 @@ ghost-self c =
     grows b (c .write .last .self .bytes .now) (c .args .self .now .latest) count (c .args .item) n (c .args .version) g (held .1) (c .pre .there) (c .pre .room)
     (record { value = omega arith; twrite = omega arith; tread = omega arith }) wide (c .args .self .now .index)
     (over-new (25 * n) b (c .write .ensures) (c .encode .ensures)) in (
-      ap length (c .note .ensures) ∙ length-set _ _ _ ∙ c .args .self .now .wide,
+      c .args .self .now .few,
       (
-        (λ _. (from-good _ count (done .good), done .counts)),
-        ((λ i below. ap (λ l. getD l i None) (c .note .ensures) ∙ done .index i below), tt),
+        ap length (c .note .ensures) ∙ length-set _ _ _ ∙ c .args .self .now .wide,
+        (
+          (λ _. (from-good _ count (done .good), done .counts)),
+          ((λ i below. ap (λ l. getD l i None) (c .note .ensures) ∙ done .index i below), tt),
+        ),
       ),
     )
 

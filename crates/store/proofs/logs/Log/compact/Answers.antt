@@ -40,4 +40,4 @@ ghost-self c =
     let count : ℕ = c .args .self .now .count in
     let held = c .args .self .now .good (c .pre) in
     let done = shrinks b after count (c .args .self .now .used) (c .compact-used .result) (good-from b count (held .0)) (held .1) (c .compact-used .ensures .bytes) (c .compact-used .ensures .count) in
-    (c .index-self .ensures .wide, ((λ _. (from-good after count (done .good), done .counts)), ((λ item below. c .index-self .ensures .places item (omega (arith, done .good .few))), tt)))
+    (c .args .self .now .few, (c .index-self .ensures .wide, ((λ _. (from-good after count (done .good), done .counts)), ((λ item below. c .index-self .ensures .places item (omega (arith, done .good .few))), tt))))

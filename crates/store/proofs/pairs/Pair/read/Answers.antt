@@ -10,7 +10,7 @@ returns-in-First g c =
     let at = c .in-First .ensures tt in
     c .get .ensures
     ∙ ap (nth (g .A·Store .versions (c .args .self .now .first))) (at .0)
-    ∙ sym (nth-pair-first (g .A·Store .versions (c .args .self .now .first)) (g .B·Store .versions (c .args .self .now .second)) (c .args .item) (g .A·Store·met .few (c .args .self .now .first)) (at .1))
+    ∙ sym (nth-pair-first (g .A·Store .versions (c .args .self .now .first)) (g .B·Store .versions (c .args .self .now .second)) (c .args .item) (g .A·Store .few (c .args .self .now .first)) (at .1))
 
 pub returns-in-Second : need.returns-in-Second
 returns-in-Second g c =

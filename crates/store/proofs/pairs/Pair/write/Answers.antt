@@ -11,7 +11,7 @@ returns-in-First g c =
     record {
       versions =
           ap (λ l. pair l (g .B·Store .versions (c .args .self .now .second))) (c .put .ensures ∙ ap (λ k. set (g .A·Store .versions (c .args .self .now .first)) k (c .args .version)) (at .0))
-          ∙ set-pair-first (g .A·Store .versions (c .args .self .now .first)) (g .B·Store .versions (c .args .self .now .second)) (c .args .item) (c .args .version) (g .A·Store·met .few (c .args .self .now .first)) (at .1);
+          ∙ set-pair-first (g .A·Store .versions (c .args .self .now .first)) (g .B·Store .versions (c .args .self .now .second)) (c .args .item) (c .args .version) (g .A·Store .few (c .args .self .now .first)) (at .1);
       first = λ past. absurd (omega (arith, at .1));
       second = λ _. refl;
       past = λ _. refl;
