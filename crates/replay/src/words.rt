@@ -23,6 +23,9 @@ pub struct Shape {
     pub front: Vec<u8>,
 }
 
+// The longest buffer that the program makes. No store takes more than 65,536 bytes; a longer buffer is there to be refused.
+const MOST_BYTES: usize = 1 << 20;
+
 // A decimal number; a sign is none.
 fn number(word: &str) -> Option<u64> {
     if word.starts_with('+') {
@@ -129,7 +132,7 @@ fn numbers(heap: Global, words: &[&str]) -> Result<Option<Vec<u64>>, AllocError>
 }
 
 // `COUNT LENGTH [BYTES]`, where the bytes fit into the length.
-fn shape(heap: Global, words: &[&str]) -> Result<Option<Shape>, AllocError> {
+fn shape_of(heap: Global, words: &[&str]) -> Result<Option<Shape>, AllocError> {
     let (sizes, front) = match words {
         [_, _] => (words, Some(Vec::new(heap))),
         [_, _, last] => (&words[0..2], bytes(heap, last)?),
@@ -139,14 +142,14 @@ fn shape(heap: Global, words: &[&str]) -> Result<Option<Shape>, AllocError> {
     let Some(sizes) = numbers(heap, sizes)? else { return Ok(None) };
     let [count, length] = sizes.as_slice() else { return Ok(None) };
     let length = *length as usize;
-    if front.len() > length {
+    if front.len() > length || length > MOST_BYTES {
         return Ok(None);
     }
     Ok(Some(Shape { count: *count as usize, length, front }))
 }
 
 // What a line asks for.
-pub fn line(heap: Global, text: &str) -> Result<Line, AllocError> {
+pub fn parse(heap: Global, text: &str) -> Result<Line, AllocError> {
     let mut all = Vec::new(heap);
     for word in text.split(' ') {
         if !word.is_empty() {
@@ -158,7 +161,7 @@ pub fn line(heap: Global, text: &str) -> Result<Line, AllocError> {
         return Ok(Line::Nothing);
     }
     if *name == "table" {
-        return Ok(match shape(heap, rest)? {
+        return Ok(match shape_of(heap, rest)? {
             Some(shape) => Line::Table(shape),
             None => Line::NotUnderstood,
         });
