@@ -49,7 +49,22 @@ pub fn look(heap: Global, result: Result<Look, Refusal>) -> Result<String, Alloc
 }
 
 const DIGITS: [char; 16] = [
-    '0', '1', '2', '3', '4', '5', '6', '7', '8', '9', 'A', 'B', 'C', 'D', 'E', 'F',
+    '0',
+    '1',
+    '2',
+    '3',
+    '4',
+    '5',
+    '6',
+    '7',
+    '8',
+    '9',
+    'A',
+    'B',
+    'C',
+    'D',
+    'E',
+    'F',
 ];
 
 // Two hexadecimal digits for each byte.

@@ -10,6 +10,8 @@ use service::Service;
 use std::alloc::AllocError;
 use std::alloc::Global;
 use std::error::AnyError;
+use store::Log;
+use store::Pair;
 use store::Store;
 use store::Table;
 use store::Version;
@@ -24,6 +26,24 @@ pub impl Shown for Table<'_> as TableShown {
     fn buffers(&self, heap: Global) -> Result<Vec<String>, AllocError> {
         let mut all = Vec::new(heap);
         all.push(answers::hexadecimal(heap, self.bytes())?)?;
+        Ok(all)
+    }
+}
+
+pub impl Shown for Log<'_> as LogShown {
+    fn buffers(&self, heap: Global) -> Result<Vec<String>, AllocError> {
+        let mut all = Vec::new(heap);
+        all.push(answers::hexadecimal(heap, self.bytes())?)?;
+        Ok(all)
+    }
+}
+
+pub impl<A: Store + Shown, B: Store + Shown> Shown for Pair<A, B> as PairShown {
+    fn buffers(&self, heap: Global) -> Result<Vec<String>, AllocError> {
+        let mut all = self.first().buffers(heap)?;
+        for buffer in self.second().buffers(heap)? {
+            all.push(buffer)?;
+        }
         Ok(all)
     }
 }
@@ -48,7 +68,12 @@ fn versions<S: Store>(heap: Global, store: &S) -> Result<Vec<Version>, AllocErro
 }
 
 // Answers one line, and notes the call that it made.
-fn answer<S: Store>(heap: Global, service: &mut Service<S>, events: &mut Vec<(Call, Outcome)>, line: &Line) -> Result<String, AllocError> {
+fn answer<S: Store>(
+    heap: Global,
+    service: &mut Service<S>,
+    events: &mut Vec<(Call, Outcome)>,
+    line: &Line,
+) -> Result<String, AllocError> {
     match line {
         Line::Call(call) => {
             let outcome = made(service, *call);
@@ -56,7 +81,8 @@ fn answer<S: Store>(heap: Global, service: &mut Service<S>, events: &mut Vec<(Ca
             answers::outcome(heap, outcome)
         }
         Line::Peek(item) => answers::look(heap, service.peek(*item)),
-        Line::Table(_) | Line::Nothing | Line::NotUnderstood => String::from_str(heap, answers::NOT_UNDERSTOOD),
+        Line::Table(_) | Line::Log(_) | Line::Pair(_, _) | Line::Nothing | Line::NotUnderstood =>
+            String::from_str(heap, answers::NOT_UNDERSTOOD),
     }
 }
 
@@ -68,7 +94,11 @@ fn is_nothing(line: &Line) -> bool {
 }
 
 // The lines behind the opening one.
-pub fn replay<S: Store + Shown + Drop>(rt: &LibcRuntime, store: S, lines: &[String]) -> Result<(), AnyError> {
+pub fn replay<S: Store + Shown + Drop>(
+    rt: &LibcRuntime,
+    store: S,
+    lines: &[String],
+) -> Result<(), AnyError> {
     let heap = rt.alloc();
     let start = versions(heap, &store)?;
     let mut events = Vec::new(heap);
@@ -85,7 +115,12 @@ pub fn replay<S: Store + Shown + Drop>(rt: &LibcRuntime, store: S, lines: &[Stri
 }
 
 // What the lines left: the serial order, the items and the buffers.
-fn report<S: Store + Shown>(rt: &LibcRuntime, service: &Service<S>, start: &[Version], events: &[(Call, Outcome)]) -> Result<(), AnyError> {
+fn report<S: Store + Shown>(
+    rt: &LibcRuntime,
+    service: &Service<S>,
+    start: &[Version],
+    events: &[(Call, Outcome)],
+) -> Result<(), AnyError> {
     let heap = rt.alloc();
     let left = versions(heap, service.store())?;
     for version in left.as_slice() {

@@ -10,6 +10,8 @@ pub enum Line {
     // blank, or a comment
     Nothing,
     Table(Shape),
+    Log(Shape),
+    Pair(Shape, Shape),
     Call(Call),
     Peek(Item),
     NotUnderstood,
@@ -51,19 +53,32 @@ fn call(name: &str, numbers: &[u64]) -> Option<Call> {
         }
         "read" => {
             let [a, b] = numbers else { return None };
-            Some(Call::Read { tool: tool(*a)?, item: item(*b)? })
+            Some(Call::Read {
+                tool: tool(*a)?,
+                item: item(*b)?,
+            })
         }
         "write" => {
             let [a, b, c] = numbers else { return None };
-            Some(Call::Write { tool: tool(*a)?, item: item(*b)?, value: u32::try_from(*c).ok()? })
+            Some(Call::Write {
+                tool: tool(*a)?,
+                item: item(*b)?,
+                value: u32::try_from(*c).ok()?,
+            })
         }
         "close" => {
             let [a, b] = numbers else { return None };
-            Some(Call::Close { tool: tool(*a)?, tick: *b })
+            Some(Call::Close {
+                tool: tool(*a)?,
+                tick: *b,
+            })
         }
         "certify" => {
             let [a, b] = numbers else { return None };
-            Some(Call::Certify { tool: tool(*a)?, item: item(*b)? })
+            Some(Call::Certify {
+                tool: tool(*a)?,
+                item: item(*b)?,
+            })
         }
         "commit" => {
             let [a] = numbers else { return None };
@@ -75,7 +90,10 @@ fn call(name: &str, numbers: &[u64]) -> Option<Call> {
         }
         "settle" => {
             let [a, b] = numbers else { return None };
-            Some(Call::Settle { tool: tool(*a)?, item: item(*b)? })
+            Some(Call::Settle {
+                tool: tool(*a)?,
+                item: item(*b)?,
+            })
         }
         _ => None,
     }
@@ -131,6 +149,19 @@ fn numbers(heap: Global, words: &[&str]) -> Result<Option<Vec<u64>>, AllocError>
     Ok(Some(all))
 }
 
+// A store of so many items and bytes, if the program makes such a buffer.
+fn shaped(count: u64, length: u64, front: Vec<u8>) -> Option<Shape> {
+    let length = length as usize;
+    if front.len() > length || length > MOST_BYTES {
+        return None;
+    }
+    Some(Shape {
+        count: count as usize,
+        length,
+        front,
+    })
+}
+
 // `COUNT LENGTH [BYTES]`, where the bytes fit into the length.
 fn shape_of(heap: Global, words: &[&str]) -> Result<Option<Shape>, AllocError> {
     let (sizes, front) = match words {
@@ -139,13 +170,49 @@ fn shape_of(heap: Global, words: &[&str]) -> Result<Option<Shape>, AllocError> {
         _ => return Ok(None),
     };
     let Some(front) = front else { return Ok(None) };
-    let Some(sizes) = numbers(heap, sizes)? else { return Ok(None) };
-    let [count, length] = sizes.as_slice() else { return Ok(None) };
-    let length = *length as usize;
-    if front.len() > length || length > MOST_BYTES {
-        return Ok(None);
+    let Some(sizes) = numbers(heap, sizes)? else {
+        return Ok(None)
+    };
+    let [count, length] = sizes.as_slice() else {
+        return Ok(None)
+    };
+    Ok(shaped(*count, *length, front))
+}
+
+// `COUNT LENGTH COUNT LENGTH`
+fn shapes_of(heap: Global, words: &[&str]) -> Result<Option<(Shape, Shape)>, AllocError> {
+    let Some(sizes) = numbers(heap, words)? else {
+        return Ok(None)
+    };
+    let [count, length, other_count, other_length] = sizes.as_slice() else {
+        return Ok(None)
+    };
+    let Some(first) = shaped(*count, *length, Vec::new(heap)) else {
+        return Ok(None)
+    };
+    let Some(second) = shaped(*other_count, *other_length, Vec::new(heap)) else {
+        return Ok(None)
+    };
+    Ok(Some((first, second)))
+}
+
+// A line that opens a store.
+fn opening(heap: Global, name: &str, words: &[&str]) -> Result<Line, AllocError> {
+    if name == "pair" {
+        return Ok(
+            match shapes_of(heap, words)? {
+                Some((first, second)) => Line::Pair(first, second),
+                None => Line::NotUnderstood,
+            },
+        );
     }
-    Ok(Some(Shape { count: *count as usize, length, front }))
+    let Some(shape) = shape_of(heap, words)? else {
+        return Ok(Line::NotUnderstood)
+    };
+    if name == "table" {
+        return Ok(Line::Table(shape));
+    }
+    Ok(Line::Log(shape))
 }
 
 // What a line asks for.
@@ -156,25 +223,30 @@ pub fn parse(heap: Global, text: &str) -> Result<Line, AllocError> {
             all.push(word)?;
         }
     }
-    let Some((name, rest)) = all.as_slice().split_first() else { return Ok(Line::Nothing) };
+    let Some((name, rest)) = all.as_slice().split_first() else {
+        return Ok(Line::Nothing)
+    };
     if name.starts_with('#') {
         return Ok(Line::Nothing);
     }
-    if *name == "table" {
-        return Ok(match shape_of(heap, rest)? {
-            Some(shape) => Line::Table(shape),
-            None => Line::NotUnderstood,
-        });
+    if *name == "table" || *name == "log" || *name == "pair" {
+        return opening(heap, name, rest);
     }
-    let Some(numbers) = numbers(heap, rest)? else { return Ok(Line::NotUnderstood) };
+    let Some(numbers) = numbers(heap, rest)? else {
+        return Ok(Line::NotUnderstood)
+    };
     if *name == "peek" {
-        return Ok(match peeked(numbers.as_slice()) {
-            Some(item) => Line::Peek(item),
-            None => Line::NotUnderstood,
-        });
+        return Ok(
+            match peeked(numbers.as_slice()) {
+                Some(item) => Line::Peek(item),
+                None => Line::NotUnderstood,
+            },
+        );
     }
-    Ok(match call(name, numbers.as_slice()) {
-        Some(call) => Line::Call(call),
-        None => Line::NotUnderstood,
-    })
+    Ok(
+        match call(name, numbers.as_slice()) {
+            Some(call) => Line::Call(call),
+            None => Line::NotUnderstood,
+        },
+    )
 }
