@@ -1,4 +1,9 @@
 // A service under replay: its lines with their answers, and what they leave.
+ghost use mathlib.Core.List.{List, _∷_};
+ghost use Rattle.store.specs.declared.Version.{Version as Start};
+ghost use Rattle.service.specs.Services.{stateOf};
+ghost use Rattle.history.specs.History.{History};
+ghost use Rattle.history.specs.Runs.{Run, Runs};
 use crate::answers;
 use crate::words;
 use crate::words::Line;
@@ -48,8 +53,10 @@ pub impl<A: Store + Shown, B: Store + Shown> Shown for Pair<A, B> as PairShown {
     }
 }
 
-// Makes one call.
-fn made<S: Store>(service: &mut Service<S>, call: Call) -> Outcome {
+// Makes one call: the run that led to the service goes on by it.
+fn made<S: Store>(service: &mut Service<S>, call: Call) -> Outcome
+    ensures { λ r. ⌜ ((vs : List Start) (h : History) → Run vs h (stateOf versions (now (service .entry))) → Runs vs ((call, r) ∷ h) (stateOf versions (now (service .exit)))) ⌝ }
+{
     let calls = [call];
     let mut answers = [Err(Refusal::WrongState)];
     let _ = resume(service, &calls, &mut answers);
