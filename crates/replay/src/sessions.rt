@@ -7,8 +7,12 @@ ghost use Rattle.history.specs.Runs.{Run, Runs};
 use crate::answers;
 use crate::words;
 use crate::words::Line;
+use history::Event;
 use history::Outcome;
+use history::all_settled;
+use history::committed_stamps;
 use history::resume;
+use history::serial_run;
 use service::Call;
 use service::Refusal;
 use service::Service;
@@ -78,7 +82,7 @@ fn versions<S: Store>(heap: Global, store: &S) -> Result<Vec<Version>, AllocErro
 fn answer<S: Store>(
     heap: Global,
     service: &mut Service<S>,
-    events: &mut Vec<(Call, Outcome)>,
+    events: &mut Vec<Event>,
     line: &Line,
 ) -> Result<String, AllocError> {
     match line {
@@ -121,21 +125,37 @@ pub fn replay<S: Store + Shown + Drop>(
     report(rt, &service, start.as_slice(), events.as_slice())
 }
 
-// What the lines left: the serial order, the items and the buffers.
-fn report<S: Store + Shown>(
-    rt: &LibcRuntime,
-    service: &Service<S>,
-    start: &[Version],
-    events: &[(Call, Outcome)],
-) -> Result<(), AnyError> {
+// What the lines left: the serial order, the items beside the serial run, and the buffers.
+fn report<S: Store + Shown>(rt: &LibcRuntime, service: &Service<S>, start: &[Version], events: &[Event]) -> Result<(), AnyError> {
     let heap = rt.alloc();
-    let left = versions(heap, service.store())?;
-    for version in left.as_slice() {
-        let value = version.value;
-        println!(rt, "item {value}")?;
+    print!(rt, "serial")?;
+    for stamp in committed_stamps(heap, events)?.as_slice() {
+        print!(rt, " {stamp}")?;
     }
+    println!(rt, "")?;
+    items(rt, service, start, events)?;
     for buffer in service.store().buffers(heap)?.as_slice() {
         println!(rt, "bytes {buffer}")?;
+    }
+    if all_settled(heap, events)? {
+        println!(rt, "settled")?;
+    } else {
+        println!(rt, "unsettled")?;
+    }
+    Ok(())
+}
+
+fn items<S: Store>(rt: &LibcRuntime, service: &Service<S>, start: &[Version], events: &[Event]) -> Result<(), AnyError> {
+    let heap = rt.alloc();
+    let left = versions(heap, service.store())?;
+    let run = serial_run(heap, start, events)?;
+    for (item, (version, cell)) in left.as_slice().iter().zip(run.as_slice()).enumerate() {
+        let value = version.value;
+        let twrite = version.twrite;
+        let tread = version.tread;
+        let serial_value = cell.value;
+        let stamp = cell.stamp;
+        println!(rt, "item {item} {value} {twrite} {tread} {serial_value} {stamp}")?;
     }
     Ok(())
 }
