@@ -10,6 +10,7 @@ use lib.ListN.{length, getD, take, drop}
 use Rattle.std.proofs.shelf.Lists.{take-all}
 use Rattle.std.specs.shelf.Digits.{number, numberAfter}
 use Rattle.store.specs.Bytes.{numberIn, bytesOf}
+use Rattle.frame.specs.RoundTrip.{Bytes}
 
 -- one more byte behind a number of i bytes
 pub byte-more : (n b i : ℕ) → n < 256 ^ i → b < 256 → n * 256 + b < 256 ^ (i + 1)
@@ -24,10 +25,6 @@ room-for-byte n b i w small byte below =
 pub length-bytesOf : (width n : ℕ) → length (bytesOf width n) ≡ width
 length-bytesOf zero n = refl
 length-bytesOf (suc width) n = ap suc (length-bytesOf width n)
-
--- every element is a byte
-abbrev pub Bytes : List ℕ → Type 0
-Bytes bs = (i : ℕ) → getD bs i 0 < 256
 
 -- a digit in front
 number-after : (n : ℕ) (ds : List ℕ) → numberAfter 256 n ds ≡ n * 256 ^ length ds + numberIn ds

@@ -1,3 +1,5 @@
 mod Bytes
 mod Taking
 mod Putting
+mod RoundTrips
+mod Written

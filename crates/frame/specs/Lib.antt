@@ -3,3 +3,4 @@ pub mod Fields
 pub mod Parts
 pub mod Drafts
 pub mod Requests
+pub mod RoundTrip

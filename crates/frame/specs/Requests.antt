@@ -1,7 +1,7 @@
 -- Requests: the tool, the call's number, and what the call takes.
 use mathlib.Core.Bool.{cond}
 use mathlib.Core.List.{List, [], _∷_, _++_}
-use Prim.Native.Nat.{ℕ, _^_, _<_}
+use Prim.Native.Nat.{ℕ}
 use lib.Dec.{eqb}
 use Rattle.std.specs.declared.result.Result.{Result}
 use Rattle.std.specs.declared.result.Result.the-variants.{Ok, Err}
@@ -10,6 +10,7 @@ use Rattle.service.specs.declared.calls.Call.the-variants.{Begin, Read, Write, 
 use Rattle.service.specs.Service.{toolOf}
 use Rattle.frame.specs.declared.faults.Fault.{Fault}
 use Rattle.frame.specs.declared.faults.Fault.the-variants.{Unknown, Trailing}
+use Rattle.frame.specs.declared.kinds.Kind.{Kind}
 use Rattle.frame.specs.declared.kinds.Kind.the-variants as kind
 use Rattle.frame.specs.declared.requests.Request.{Request}
 use Rattle.frame.specs.Fields.{field, taken, bind}
@@ -60,29 +61,24 @@ writtenCall (Err e) buffer = (Err e, buffer)
 abbrev pub writtenRequest : Request → List ℕ → Result ℕ Fault × List ℕ
 writtenRequest q = writtenCall (requested q)
 
+-- a call that takes no field, and one that takes one field of that kind; with each what follows
+abbrev pub withNone : Call → List ℕ → Result (Call × List ℕ) Fault
+withNone c rest = Ok (c, rest)
+
+abbrev pub withOne : Kind → (ℕ → Call) → List ℕ → Result (Call × List ℕ) Fault
+withOne k make rest = bind (taken k rest) (λ x. Ok (make (x .0), x .1))
+
 -- the call with that number, and what follows its fields
-abbrev pub plain : Call → List ℕ → Result (Call × List ℕ) Fault
-plain c rest = Ok (c, rest)
-
-abbrev pub withItem : (ℕ → Call) → List ℕ → Result (Call × List ℕ) Fault
-withItem make rest = bind (taken kind.Item rest) (λ i. Ok (make (i .0), i .1))
-
-abbrev pub withValue : (ℕ → ℕ → Call) → List ℕ → Result (Call × List ℕ) Fault
-withValue make rest = bind (taken kind.Item rest) (λ i. bind (taken kind.Value (i .1)) (λ v. Ok (make (i .0) (v .0), v .1)))
-
-abbrev pub withTick : (ℕ → Call) → List ℕ → Result (Call × List ℕ) Fault
-withTick make rest = bind (taken kind.Tick rest) (λ k. Ok (make (k .0), k .1))
-
 abbrev pub takenCall : ℕ → ℕ → List ℕ → Result (Call × List ℕ) Fault
 takenCall t n rest =
-    cond (eqb n 1) (plain (Begin t) rest)
-    (cond (eqb n 2) (withItem (Read t) rest)
-    (cond (eqb n 3) (withValue (Write t) rest)
-    (cond (eqb n 4) (withTick (Close t) rest)
-    (cond (eqb n 5) (withItem (Certify t) rest)
-    (cond (eqb n 6) (plain (Commit t) rest)
-    (cond (eqb n 7) (plain (Abort t) rest)
-    (cond (eqb n 8) (withItem (Settle t) rest)
+    cond (eqb n 1) (withNone (Begin t) rest)
+    (cond (eqb n 2) (withOne kind.Item (Read t) rest)
+    (cond (eqb n 3) (bind (taken kind.Item rest) (λ i. withOne kind.Value (Write t (i .0)) (i .1)))
+    (cond (eqb n 4) (withOne kind.Tick (Close t) rest)
+    (cond (eqb n 5) (withOne kind.Item (Certify t) rest)
+    (cond (eqb n 6) (withNone (Commit t) rest)
+    (cond (eqb n 7) (withNone (Abort t) rest)
+    (cond (eqb n 8) (withOne kind.Item (Settle t) rest)
     (Err Unknown))))))))
 
 -- nothing may follow the last field

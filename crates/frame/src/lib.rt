@@ -9,4 +9,5 @@ mod requests;
 pub use faults::Fault;
 pub use requests::Request;
 pub use requests::read_request;
+pub use requests::requests_have_one_frame;
 pub use requests::write_request;

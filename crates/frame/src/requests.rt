@@ -7,6 +7,7 @@ ghost use Rattle.std.specs.declared.result.Result.the-variants.{Ok};
 ghost use Rattle.frame.specs.Fields.{Reads};
 ghost use Rattle.frame.specs.Drafts.{contents};
 ghost use Rattle.frame.specs.Requests.{number as numberOf, frameOf, requested, writtenRequest, takenCall, readRequest};
+ghost use Rattle.frame.specs.RoundTrip.{Requests-one-frame};
 use crate::drafts::Draft;
 use crate::faults::Fault;
 use crate::fields::Fields;
@@ -64,8 +65,34 @@ impl Request {
             _ => Err(Fault::Unknown),
         }
     }
+
+    // The request for a call; the numbers that it does not take are 0.
+    pub fn of(call: Call) -> Request
+        ensures { λ r. ⌜ requested r ≡ Ok call ⌝ }
+    {
+        let none = Request {
+            tool: call.tool(),
+            call: number(call),
+            item: 0,
+            value: 0,
+            tick: 0,
+        };
+        match call {
+            Call::Begin { .. } | Call::Commit { .. } | Call::Abort { .. } => none,
+            Call::Read { item, .. } | Call::Certify { item, .. } | Call::Settle { item, .. } => {
+                Request { item, ..none }
+            }
+            Call::Write { item, value, .. } => Request {
+                item,
+                value,
+                ..none
+            },
+            Call::Close { tick, .. } => Request { tick, ..none },
+        }
+    }
 }
 
+// The number of a call.
 fn number(call: Call) -> u8
     ensures { λ r. ⌜ r ≡ numberOf call ⌝ }
 {
@@ -105,7 +132,8 @@ fn draft(call: Call) -> Draft
 // Writes the request's frame to the front of the buffer and answers its length; later bytes stay, and a refusal
 // leaves the whole buffer.
 pub fn write_request(request: Request, buffer: &mut [u8]) -> Result<usize, Fault>
-    ensures { λ r. ⌜ (r, now (buffer .exit)) ≡ writtenRequest request (now (buffer .entry)) ⌝ }
+    ensures writes { λ r. ⌜ (r, now (buffer .exit)) ≡ writtenRequest request (now (buffer .entry)) ⌝ }
+    ensures back { λ r. ⌜ made r (λ n. readRequest (take n (now (buffer .exit))) ≡ requested request) ⌝ }
 {
     let call = request.to_call()?;
     draft(call).copy_to(buffer)
@@ -146,7 +174,8 @@ fn read_call(tool: u8, number: u8, fields: &mut Fields) -> Result<Call, Fault>
 
 // The call that a frame asks for.
 pub fn read_request(frame: &[u8]) -> Result<Call, Fault>
-    ensures { λ r. ⌜ r ≡ readRequest (now (frame .entry)) ⌝ }
+    ensures reads { λ r. ⌜ r ≡ readRequest (now (frame .entry)) ⌝ }
+    ensures back { λ r. ⌜ made r (λ c. frameOf c ≡ now (frame .entry)) ⌝ }
 {
     let mut fields = Fields { rest: frame };
     let tool = fields.tool()?;
@@ -155,3 +184,8 @@ pub fn read_request(frame: &[u8]) -> Result<Call, Fault>
     fields.end()?;
     Ok(call)
 }
+
+// Each request has one frame: what is written is read again, and what is read was written so.
+pub fn requests_have_one_frame()
+    ensures { λ _. ⌜ Requests-one-frame ⌝ }
+{}
