@@ -2,4 +2,6 @@ mod Bytes
 mod Taking
 mod Putting
 mod RoundTrips
+mod ReplyTrips
 mod Written
+mod Answering

@@ -51,11 +51,11 @@ cond-ok : {X : Type 0} (b : Bool) (e : Fault) (r : Result X Fault) (x : X) → c
 cond-ok true e r x h = absurd (let z : _≡_ {A = ℕ} 0 1 = cc in omega arith)
 cond-ok false e r x h = (refl, h)
 
-bind-ok : {X Y : Type 0} (r : Result X Fault) (next : X → Result Y Fault) (y : Y) → bind r next ≡ Ok y → (x : X) × (r ≡ Ok x) × (next x ≡ Ok y)
+pub bind-ok : {X Y : Type 0} (r : Result X Fault) (next : X → Result Y Fault) (y : Y) → bind r next ≡ Ok y → (x : X) × (r ≡ Ok x) × (next x ≡ Ok y)
 bind-ok (Ok x) next y h = (x, refl, h)
 bind-ok (Err e) next y h = absurd (let z : _≡_ {A = ℕ} 0 1 = cc in omega arith)
 
-same-pair : {X Y : Type 0} (a x : X) (b y : Y) → _≡_ {A = Result (X × Y) Fault} (Ok (a, b)) (Ok (x, y)) → (a ≡ x) × (b ≡ y)
+pub same-pair : {X Y : Type 0} (a x : X) (b y : Y) → _≡_ {A = Result (X × Y) Fault} (Ok (a, b)) (Ok (x, y)) → (a ≡ x) × (b ≡ y)
 same-pair {X} {Y} a x b y h = let p : _≡_ {A = X × Y} (a, b) (x, y) = cc in (ap (λ (q : X × Y). q .0) p, ap (λ (q : X × Y). q .1) p)
 
 bytes-take : (n : ℕ) (xs : List ℕ) → Bytes xs → Bytes (take n xs)
@@ -134,7 +134,7 @@ record Argued (t n : ℕ) (frame : List ℕ) (c : Call) (rest : List ℕ) : Type
   called : number c ≡ n
   takes : frame ≡ arguments c ++ rest
 
-choose : {X : Type 0} (n m : ℕ) (a b r : X) → cond (eqb n m) a b ≡ r → ((n ≡ m) × (a ≡ r)) ⊎ (b ≡ r)
+pub choose : {X : Type 0} (n m : ℕ) (a b r : X) → cond (eqb n m) a b ≡ r → ((n ≡ m) × (a ≡ r)) ⊎ (b ≡ r)
 choose n m a b r h = ⊎-elim (λ e. inl (eqb-true n m e, sym (cond-true (eqb n m) a b e) ∙ h)) (λ e. inr (sym (cond-false (eqb n m) a b e) ∙ h)) (cases-bool (eqb n m))
 
 module _ (t n : ℕ) (frame : List ℕ) (bytes : Bytes frame) (c : Call) (rest : List ℕ) where
@@ -173,7 +173,7 @@ module _ (t n : ℕ) (frame : List ℕ) (bytes : Bytes frame) (c : Call) (rest :
       ⊎-elim (λ (e, h). one kind.Item (Settle t) [] frame bytes refl (λ x. (refl, e, refl)) h) (λ h. absurd (let z : _≡_ {A = ℕ} 0 1 = cc in omega arith))
       (choose n 8 _ _ _ h)) (choose n 7 _ _ _ h)) (choose n 6 _ _ _ h)) (choose n 5 _ _ _ h)) (choose n 4 _ _ _ h)) (choose n 3 _ _ _ h)) (choose n 2 _ _ _ h)) (choose n 1 _ _ _ h)
 
-ended-ok : {X : Type 0} (p : X × List ℕ) (x : X) → ended p ≡ Ok x → p ≡ (x, [])
+pub ended-ok : {X : Type 0} (p : X × List ℕ) (x : X) → ended p ≡ Ok x → p ≡ (x, [])
 ended-ok (y, []) x h = let e : y ≡ x = cc in ap (λ z. (z, [])) e
 ended-ok (y, b ∷ rest) x h = absurd (let z : _≡_ {A = ℕ} 0 1 = cc in omega arith)
 

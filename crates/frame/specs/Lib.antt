@@ -4,3 +4,5 @@ pub mod Parts
 pub mod Drafts
 pub mod Requests
 pub mod RoundTrip
+pub mod Replies
+pub mod Serving
