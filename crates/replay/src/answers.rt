@@ -25,6 +25,10 @@ pub fn opened(heap: Global, result: Result<(), Fault>) -> Result<String, AllocEr
     }
 }
 
+pub fn fault(heap: Global, fault: frame::Fault) -> Result<String, AllocError> {
+    refused(heap, fault.number(), fault.meaning())
+}
+
 pub fn outcome(heap: Global, outcome: Outcome) -> Result<String, AllocError> {
     match outcome {
         Ok(Answer::Done) => String::from_str(heap, "0"),

@@ -33,7 +33,7 @@ pub fn replay_all(rt: &LibcRuntime, lines: &[String]) -> Result<(), AnyError> {
                 second,
                 &lines[k + 1..],
             ),
-            Line::Call(_) | Line::Peek(_) | Line::NotUnderstood => {
+            Line::Call(_) | Line::Peek(_) | Line::Frame(_) | Line::NotUnderstood => {
                 let answer = answers::NOT_UNDERSTOOD;
                 println!(rt, "{text}: {answer}")?;
             }

@@ -25,6 +25,9 @@ use store::Store;
 use store::Table;
 use store::Version;
 
+// No reply has more bytes.
+const LONGEST_REPLY: usize = 15;
+
 // A store whose buffers can be shown.
 pub trait Shown {
     // Each buffer in hexadecimal.
@@ -92,9 +95,31 @@ fn answer<S: Store>(
             answers::outcome(heap, outcome)
         }
         Line::Peek(item) => answers::look(heap, service.peek(*item)),
+        Line::Frame(frame) => served(heap, service, events, frame.as_slice()),
         Line::Table(_) | Line::Log(_) | Line::Pair(_, _) | Line::Nothing | Line::NotUnderstood =>
             String::from_str(heap, answers::NOT_UNDERSTOOD),
     }
+}
+
+// Serves a frame. It counts as the call that it makes, with the answer that its reply holds.
+fn served<S: Store>(
+    heap: Global,
+    service: &mut Service<S>,
+    events: &mut Vec<Event>,
+    frame: &[u8],
+) -> Result<String, AllocError> {
+    let mut buffer = [0u8; LONGEST_REPLY];
+    let length = match frame::serve(service, frame, &mut buffer) {
+        Ok(length) => length,
+        Err(fault) => return answers::fault(heap, fault),
+    };
+    let reply = &buffer[0..length.min(LONGEST_REPLY)];
+    if let Ok(call) = frame::read_request(frame) {
+        if let Ok(outcome) = frame::read_reply(call, reply) {
+            events.push((call, outcome))?;
+        }
+    }
+    answers::hexadecimal(heap, reply)
 }
 
 fn is_nothing(line: &Line) -> bool {

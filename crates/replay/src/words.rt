@@ -14,6 +14,7 @@ pub enum Line {
     Pair(Shape, Shape),
     Call(Call),
     Peek(Item),
+    Frame(Vec<u8>),
     NotUnderstood,
 }
 
@@ -215,6 +216,19 @@ fn opening(heap: Global, name: &str, words: &[&str]) -> Result<Line, AllocError>
     Ok(Line::Log(shape))
 }
 
+// `frame BYTES`; without bytes it is the empty frame.
+fn framed(heap: Global, words: &[&str]) -> Result<Line, AllocError> {
+    let frame = match words {
+        [] => Some(Vec::new(heap)),
+        [word] => bytes(heap, word)?,
+        _ => None,
+    };
+    Ok(match frame {
+        Some(frame) => Line::Frame(frame),
+        None => Line::NotUnderstood,
+    })
+}
+
 // What a line asks for.
 pub fn parse(heap: Global, text: &str) -> Result<Line, AllocError> {
     let mut all = Vec::new(heap);
@@ -231,6 +245,9 @@ pub fn parse(heap: Global, text: &str) -> Result<Line, AllocError> {
     }
     if *name == "table" || *name == "log" || *name == "pair" {
         return opening(heap, name, rest);
+    }
+    if *name == "frame" {
+        return framed(heap, rest);
     }
     let Some(numbers) = numbers(heap, rest)? else {
         return Ok(Line::NotUnderstood)
