@@ -3,7 +3,7 @@ ghost use mathlib.Core.Path.{_≡_};
 ghost use Rattle.std.specs.declared.result.Result.{Result};
 ghost use Rattle.service.specs.Service.{start};
 ghost use Rattle.service.specs.Desks.{itemOf, Finds};
-ghost use Rattle.service.specs.Services.{stateOf, Makes, done, valued, stamped, without, looked};
+ghost use Rattle.service.specs.Services.{stateOf, Makes, done, valued, stamped, AnswersDone, looked};
 ghost use Rattle.service.specs.declared.calls.Call.the-variants.{Begin, Read, Write, Close, Certify, Commit, Abort, Settle};
 use crate::calls::Answer;
 use crate::calls::Call;
@@ -19,16 +19,6 @@ use store::Stamp;
 use store::Store;
 use store::Value;
 use store::Version;
-
-// The answer of a call that has no result.
-fn finished(answer: Result<Answer, Refusal>) -> Result<(), Refusal>
-    ensures { λ r. ⌜ r ≡ without answer ⌝ }
-{
-    match answer {
-        Ok(_) => Ok(()),
-        Err(refusal) => Err(refusal),
-    }
-}
 
 impl<S: Store> Service<S> {
     // All tools idle and no tokens; the next stamps lie above every stamp in the store.
@@ -70,11 +60,21 @@ impl<S: Store> Service<S> {
         Ok(effect.answer)
     }
 
+    // A call that answers nothing but that it is done.
+    fn finish(&mut self, call: Call) -> Result<(), Refusal>
+        ensures { λ r. ⌜ (AnswersDone call → Makes versions (now (self .entry)) call (done r) (now (self .exit))) ⌝ }
+    {
+        match self.call(call) {
+            Ok(_) => Ok(()),
+            Err(refusal) => Err(refusal),
+        }
+    }
+
     // An idle tool opens a transaction without entries.
     pub fn begin(&mut self, tool: u8) -> Result<(), Refusal>
         ensures { λ r. ⌜ Makes versions (now (self .entry)) (Begin tool) (done r) (now (self .exit)) ⌝ }
     {
-        finished(self.call(Call::Begin { tool }))
+        self.finish(Call::Begin { tool })
     }
 
     // The item's current value in the open transaction; a first use reads it from the store.
@@ -92,7 +92,7 @@ impl<S: Store> Service<S> {
     pub fn write(&mut self, tool: u8, item: Item, value: Value) -> Result<(), Refusal>
         ensures { λ r. ⌜ Makes versions (now (self .entry)) (Write tool item value) (done r) (now (self .exit)) ⌝ }
     {
-        finished(self.call(Call::Write { tool, item, value }))
+        self.finish(Call::Write { tool, item, value })
     }
 
     // Ends the reads and writes and gives the transaction its stamp.
@@ -110,28 +110,28 @@ impl<S: Store> Service<S> {
     pub fn certify(&mut self, tool: u8, item: Item) -> Result<(), Refusal>
         ensures { λ r. ⌜ Makes versions (now (self .entry)) (Certify tool item) (done r) (now (self .exit)) ⌝ }
     {
-        finished(self.call(Call::Certify { tool, item }))
+        self.finish(Call::Certify { tool, item })
     }
 
     // Commits the closed transaction, all of whose entries hold a token.
     pub fn commit(&mut self, tool: u8) -> Result<(), Refusal>
         ensures { λ r. ⌜ Makes versions (now (self .entry)) (Commit tool) (done r) (now (self .exit)) ⌝ }
     {
-        finished(self.call(Call::Commit { tool }))
+        self.finish(Call::Commit { tool })
     }
 
     // Gives an open, closed or failed transaction up; its tokens stand until they are settled.
     pub fn abort(&mut self, tool: u8) -> Result<(), Refusal>
         ensures { λ r. ⌜ Makes versions (now (self .entry)) (Abort tool) (done r) (now (self .exit)) ⌝ }
     {
-        finished(self.call(Call::Abort { tool }))
+        self.finish(Call::Abort { tool })
     }
 
     // Takes an entry's tokens out, and puts what a committed one leaves.
     pub fn settle(&mut self, tool: u8, item: Item) -> Result<(), Refusal>
         ensures { λ r. ⌜ Makes versions (now (self .entry)) (Settle tool item) (done r) (now (self .exit)) ⌝ }
     {
-        finished(self.call(Call::Settle { tool, item }))
+        self.finish(Call::Settle { tool, item })
     }
 
     // The item's version and how many tokens it has.
