@@ -1,12 +1,16 @@
 // The calls of a service.
 ghost use mathlib.Core.Path.{_≡_};
 ghost use Rattle.std.specs.declared.result.Result.{Result};
-ghost use Rattle.service.specs.Service.{start};
-ghost use Rattle.service.specs.Desks.{itemOf, Finds};
+ghost use Rattle.std.specs.declared.option.Option.the-variants.{None};
+ghost use Rattle.queue.specs.Tokens.{count};
+ghost use Rattle.queue.specs.Queues.{tokens};
+ghost use Rattle.service.specs.Service.{start, readTells, writeTells};
+ghost use Rattle.service.specs.Desks.{itemOf, Finds, changed};
 ghost use Rattle.service.specs.Services.{stateOf, Makes, done, valued, stamped, AnswersDone, looked};
 ghost use Rattle.service.specs.declared.calls.Call.the-variants.{Begin, Read, Write, Close, Certify, Commit, Abort, Settle};
 use crate::calls::Answer;
 use crate::calls::Call;
+use crate::desks::Change;
 use crate::desks::Desk;
 use crate::looks::Look;
 use crate::refusals::Refusal;
@@ -19,6 +23,16 @@ use store::Stamp;
 use store::Store;
 use store::Value;
 use store::Version;
+
+// Puts a changed version, if there is one.
+fn put_change<S: Store>(store: &mut S, change: Option<Change>)
+    ensures puts { λ _. ⌜ versions (now (store .exit)) ≡ changed change (versions (now (store .entry))) ⌝ }
+    ensures kept { λ _. ⌜ (change ≡ None → now (store .exit) ≡ now (store .entry)) ⌝ }
+{
+    if let Some(change) = change {
+        store.put(change.item, change.version);
+    }
+}
 
 impl<S: Store> Service<S> {
     // All tools idle and no tokens; the next stamps lie above every stamp in the store.
@@ -54,9 +68,7 @@ impl<S: Store> Service<S> {
     {
         let found = self.find(call);
         let effect = self.desk.serve(call, found)?;
-        if let Some(change) = effect.change {
-            self.store.put(change.item, change.version);
-        }
+        put_change(&mut self.store, effect.change);
         Ok(effect.answer)
     }
 
@@ -134,16 +146,26 @@ impl<S: Store> Service<S> {
         self.finish(Call::Settle { tool, item })
     }
 
+    fn token_counts(&self, item: Item) -> (usize, usize)
+        ensures reads { λ r. ⌜ r .0 ≡ count readTells item (tokens (now (self .entry) .desk .reads)) ⌝ }
+        ensures writes { λ r. ⌜ r .1 ≡ count writeTells item (tokens (now (self .entry) .desk .writes)) ⌝ }
+    {
+        (self.desk.reads.count(item), self.desk.writes.count(item))
+    }
+
     // The item's version and how many tokens it has.
     pub fn peek(&self, item: Item) -> Result<Look, Refusal>
         ensures { λ r. ⌜ r ≡ looked (stateOf versions (now (self .entry))) item ⌝ }
     {
         match self.store.get(item) {
-            Some(version) => Ok(Look {
-                version,
-                reads: self.desk.reads.count(item),
-                writes: self.desk.writes.count(item),
-            }),
+            Some(version) => {
+                let (reads, writes) = self.token_counts(item);
+                Ok(Look {
+                    version,
+                    reads,
+                    writes,
+                })
+            }
             None => Err(Refusal::UnknownItem),
         }
     }
