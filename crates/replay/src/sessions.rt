@@ -151,7 +151,12 @@ pub fn replay<S: Store + Shown + Drop>(
 }
 
 // What the lines left: the serial order, the items beside the serial run, and the buffers.
-fn report<S: Store + Shown>(rt: &LibcRuntime, service: &Service<S>, start: &[Version], events: &[Event]) -> Result<(), AnyError> {
+fn report<S: Store + Shown>(
+    rt: &LibcRuntime,
+    service: &Service<S>,
+    start: &[Version],
+    events: &[Event],
+) -> Result<(), AnyError> {
     let heap = rt.alloc();
     print!(rt, "serial")?;
     for stamp in committed_stamps(heap, events)?.as_slice() {
@@ -170,7 +175,12 @@ fn report<S: Store + Shown>(rt: &LibcRuntime, service: &Service<S>, start: &[Ver
     Ok(())
 }
 
-fn items<S: Store>(rt: &LibcRuntime, service: &Service<S>, start: &[Version], events: &[Event]) -> Result<(), AnyError> {
+fn items<S: Store>(
+    rt: &LibcRuntime,
+    service: &Service<S>,
+    start: &[Version],
+    events: &[Event],
+) -> Result<(), AnyError> {
     let heap = rt.alloc();
     let left = versions(heap, service.store())?;
     let run = serial_run(heap, start, events)?;
@@ -180,7 +190,10 @@ fn items<S: Store>(rt: &LibcRuntime, service: &Service<S>, start: &[Version], ev
         let tread = version.tread;
         let serial_value = cell.value;
         let stamp = cell.stamp;
-        println!(rt, "item {item} {value} {twrite} {tread} {serial_value} {stamp}")?;
+        println!(
+            rt,
+            "item {item} {value} {twrite} {tread} {serial_value} {stamp}"
+        )?;
     }
     Ok(())
 }

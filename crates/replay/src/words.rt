@@ -223,10 +223,12 @@ fn framed(heap: Global, words: &[&str]) -> Result<Line, AllocError> {
         [word] => bytes(heap, word)?,
         _ => None,
     };
-    Ok(match frame {
-        Some(frame) => Line::Frame(frame),
-        None => Line::NotUnderstood,
-    })
+    Ok(
+        match frame {
+            Some(frame) => Line::Frame(frame),
+            None => Line::NotUnderstood,
+        },
+    )
 }
 
 // What a line asks for.

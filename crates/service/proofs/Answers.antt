@@ -16,12 +16,13 @@ use Rattle.std.specs.declared.result.Result.the-variants.{Ok, Err}
 use Rattle.store.specs.declared.Version.{Version}
 use Rattle.service.specs.declared.refusals.Refusal.{Refusal}
 use Rattle.service.specs.declared.calls.Call.{Call}
+use Rattle.service.specs.declared.calls.Call.the-variants.{Begin, Read, Write, Close, Certify, Commit, Abort, Settle}
 use Rattle.service.specs.declared.calls.Answer.{Answer}
 use Rattle.service.specs.declared.calls.Answer.the-variants.{Done}
 use Rattle.service.specs.declared.services.Service.{Service}
 use Rattle.service.specs.Refusals.{refusal}
 use Rattle.service.specs.Service.{State, Seat, seat, version, readTells, writeTells, toolOf, rules, answer, outcome, Does}
-use Rattle.service.specs.Services.{stateOf, Makes, done, without, looked}
+use Rattle.service.specs.Services.{stateOf, Makes, AnswersDone, looked}
 
 accepted-answer : (s s′ : State) (c : Call) (a : Answer) → Does s c (Ok a) s′ → a ≡ answer s (seat s (toolOf c)) c
 accepted-answer s s′ c a h = go (refusal (rules s c)) h
@@ -33,15 +34,21 @@ accepted-answer s s′ c a h = go (refusal (rules s c)) h
         let z : _≡_ {A = ℕ} 0 1 = cc in
         absurd (omega arith)
 
-done-without : (s s′ : State) (c : Call) (a : Result Answer Refusal) → Does s c a s′ → ((x : Seat) → answer s x c ≡ Done) → a ≡ done (without a)
-done-without s s′ c (Ok a) h d = ap Ok (accepted-answer s s′ c a h ∙ d (seat s (toolOf c)))
-done-without s s′ c (Err r) h d = refl
+answers-done : (s : State) (x : Seat) (c : Call) → AnswersDone c → answer s x c ≡ Done
+answers-done s x (Begin t) d = refl
+answers-done s x (Read t i) d = absurd d
+answers-done s x (Write t i v) d = refl
+answers-done s x (Close t k) d = absurd d
+answers-done s x (Certify t i) d = refl
+answers-done s x (Commit t) d = refl
+answers-done s x (Abort t) d = refl
+answers-done s x (Settle t i) d = refl
 
--- a call that answers nothing but that it is done
-pub finishes : {S : Type 0} (versions : S → List Version) (x y : Service S) (c : Call) (a : Result Answer Refusal) (r : Result (Unit {0}) Refusal) → ((s : State) (e : Seat) → answer s e c ≡ Done)
-    → Makes versions x c a y → r ≡ without a → Makes versions x c (done r) y
-finishes versions x y c a r d m e =
-    subst (λ (b : Result Answer Refusal). Makes versions x c b y) (done-without (stateOf versions x) (stateOf versions y) c a (m .does) (d (stateOf versions x)) ∙ ap done (sym e)) m
+-- such a call makes what it says
+pub finishes : {S : Type 0} (versions : S → List Version) (x y : Service S) (c : Call) (a : Answer) → Makes versions x c (Ok a) y → AnswersDone c → Makes versions x c (Ok Done) y
+finishes versions x y c a m d =
+    subst (λ (b : Answer). Makes versions x c (Ok b) y)
+    (accepted-answer (stateOf versions x) (stateOf versions y) c a (m .does) ∙ answers-done (stateOf versions x) (seat (stateOf versions x) (toolOf c)) c d) m
 
 pub looked-known : (s : State) (i : ℕ) (v : Version) (r w : ℕ) → i < length (s .versions) → version (s .versions) i ≡ v → r ≡ count readTells i (s .reads) → w ≡ count writeTells i (s .writes)
     → Ok (record { version = v; reads = r; writes = w }) ≡ looked s i

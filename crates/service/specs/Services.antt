@@ -12,6 +12,7 @@ use Rattle.queue.specs.Tokens.{count}
 use Rattle.service.specs.declared.refusals.Refusal.{Refusal}
 use Rattle.service.specs.declared.refusals.Refusal.the-variants.{UnknownItem}
 use Rattle.service.specs.declared.calls.Call.{Call}
+use Rattle.service.specs.declared.calls.Call.the-variants.{Begin, Read, Write, Close, Certify, Commit, Abort, Settle}
 use Rattle.service.specs.declared.calls.Answer.{Answer}
 use Rattle.service.specs.declared.calls.Answer.the-variants.{Done, Value, Stamp}
 use Rattle.service.specs.declared.services.Service.{Service}
@@ -41,9 +42,16 @@ abbrev pub stamped : Result ℕ Refusal → Result Answer Refusal
 stamped (Ok s) = Ok (Stamp s)
 stamped (Err r) = Err r
 
-abbrev pub without : Result Answer Refusal → Result (Unit {0}) Refusal
-without (Ok a) = Ok tt
-without (Err r) = Err r
+-- the calls that answer no more than that they are done
+abbrev pub AnswersDone : Call → Type 0
+AnswersDone (Begin t) = Unit
+AnswersDone (Read t i) = ⊥
+AnswersDone (Write t i v) = Unit
+AnswersDone (Close t k) = ⊥
+AnswersDone (Certify t i) = Unit
+AnswersDone (Commit t) = Unit
+AnswersDone (Abort t) = Unit
+AnswersDone (Settle t i) = Unit
 
 -- an item's version and how many tokens it has
 abbrev pub looked : State → ℕ → Result Look Refusal

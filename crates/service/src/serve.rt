@@ -1,12 +1,16 @@
 // The calls of a service.
 ghost use mathlib.Core.Path.{_≡_};
 ghost use Rattle.std.specs.declared.result.Result.{Result};
-ghost use Rattle.service.specs.Service.{start};
-ghost use Rattle.service.specs.Desks.{itemOf, Finds};
-ghost use Rattle.service.specs.Services.{stateOf, Makes, done, valued, stamped, without, looked};
+ghost use Rattle.std.specs.declared.option.Option.the-variants.{None};
+ghost use Rattle.queue.specs.Tokens.{count};
+ghost use Rattle.queue.specs.Queues.{tokens};
+ghost use Rattle.service.specs.Service.{start, readTells, writeTells};
+ghost use Rattle.service.specs.Desks.{itemOf, Finds, changed};
+ghost use Rattle.service.specs.Services.{stateOf, Makes, done, valued, stamped, AnswersDone, looked};
 ghost use Rattle.service.specs.declared.calls.Call.the-variants.{Begin, Read, Write, Close, Certify, Commit, Abort, Settle};
 use crate::calls::Answer;
 use crate::calls::Call;
+use crate::desks::Change;
 use crate::desks::Desk;
 use crate::looks::Look;
 use crate::refusals::Refusal;
@@ -20,13 +24,13 @@ use store::Store;
 use store::Value;
 use store::Version;
 
-// The answer of a call that has no result.
-fn finished(answer: Result<Answer, Refusal>) -> Result<(), Refusal>
-    ensures { λ r. ⌜ r ≡ without answer ⌝ }
+// Puts a changed version, if there is one.
+fn put_change<S: Store>(store: &mut S, change: Option<Change>)
+    ensures puts { λ _. ⌜ versions (now (store .exit)) ≡ changed change (versions (now (store .entry))) ⌝ }
+    ensures kept { λ _. ⌜ (change ≡ None → now (store .exit) ≡ now (store .entry)) ⌝ }
 {
-    match answer {
-        Ok(_) => Ok(()),
-        Err(refusal) => Err(refusal),
+    if let Some(change) = change {
+        store.put(change.item, change.version);
     }
 }
 
@@ -64,17 +68,25 @@ impl<S: Store> Service<S> {
     {
         let found = self.find(call);
         let effect = self.desk.serve(call, found)?;
-        if let Some(change) = effect.change {
-            self.store.put(change.item, change.version);
-        }
+        put_change(&mut self.store, effect.change);
         Ok(effect.answer)
+    }
+
+    // A call that answers nothing but that it is done.
+    fn finish(&mut self, call: Call) -> Result<(), Refusal>
+        ensures { λ r. ⌜ (AnswersDone call → Makes versions (now (self .entry)) call (done r) (now (self .exit))) ⌝ }
+    {
+        match self.call(call) {
+            Ok(_) => Ok(()),
+            Err(refusal) => Err(refusal),
+        }
     }
 
     // An idle tool opens a transaction without entries.
     pub fn begin(&mut self, tool: u8) -> Result<(), Refusal>
         ensures { λ r. ⌜ Makes versions (now (self .entry)) (Begin tool) (done r) (now (self .exit)) ⌝ }
     {
-        finished(self.call(Call::Begin { tool }))
+        self.finish(Call::Begin { tool })
     }
 
     // The item's current value in the open transaction; a first use reads it from the store.
@@ -92,7 +104,7 @@ impl<S: Store> Service<S> {
     pub fn write(&mut self, tool: u8, item: Item, value: Value) -> Result<(), Refusal>
         ensures { λ r. ⌜ Makes versions (now (self .entry)) (Write tool item value) (done r) (now (self .exit)) ⌝ }
     {
-        finished(self.call(Call::Write { tool, item, value }))
+        self.finish(Call::Write { tool, item, value })
     }
 
     // Ends the reads and writes and gives the transaction its stamp.
@@ -110,28 +122,35 @@ impl<S: Store> Service<S> {
     pub fn certify(&mut self, tool: u8, item: Item) -> Result<(), Refusal>
         ensures { λ r. ⌜ Makes versions (now (self .entry)) (Certify tool item) (done r) (now (self .exit)) ⌝ }
     {
-        finished(self.call(Call::Certify { tool, item }))
+        self.finish(Call::Certify { tool, item })
     }
 
     // Commits the closed transaction, all of whose entries hold a token.
     pub fn commit(&mut self, tool: u8) -> Result<(), Refusal>
         ensures { λ r. ⌜ Makes versions (now (self .entry)) (Commit tool) (done r) (now (self .exit)) ⌝ }
     {
-        finished(self.call(Call::Commit { tool }))
+        self.finish(Call::Commit { tool })
     }
 
     // Gives an open, closed or failed transaction up; its tokens stand until they are settled.
     pub fn abort(&mut self, tool: u8) -> Result<(), Refusal>
         ensures { λ r. ⌜ Makes versions (now (self .entry)) (Abort tool) (done r) (now (self .exit)) ⌝ }
     {
-        finished(self.call(Call::Abort { tool }))
+        self.finish(Call::Abort { tool })
     }
 
     // Takes an entry's tokens out, and puts what a committed one leaves.
     pub fn settle(&mut self, tool: u8, item: Item) -> Result<(), Refusal>
         ensures { λ r. ⌜ Makes versions (now (self .entry)) (Settle tool item) (done r) (now (self .exit)) ⌝ }
     {
-        finished(self.call(Call::Settle { tool, item }))
+        self.finish(Call::Settle { tool, item })
+    }
+
+    fn token_counts(&self, item: Item) -> (usize, usize)
+        ensures reads { λ r. ⌜ r .0 ≡ count readTells item (tokens (now (self .entry) .desk .reads)) ⌝ }
+        ensures writes { λ r. ⌜ r .1 ≡ count writeTells item (tokens (now (self .entry) .desk .writes)) ⌝ }
+    {
+        (self.desk.reads.count(item), self.desk.writes.count(item))
     }
 
     // The item's version and how many tokens it has.
@@ -139,11 +158,14 @@ impl<S: Store> Service<S> {
         ensures { λ r. ⌜ r ≡ looked (stateOf versions (now (self .entry))) item ⌝ }
     {
         match self.store.get(item) {
-            Some(version) => Ok(Look {
-                version,
-                reads: self.desk.reads.count(item),
-                writes: self.desk.writes.count(item),
-            }),
+            Some(version) => {
+                let (reads, writes) = self.token_counts(item);
+                Ok(Look {
+                    version,
+                    reads,
+                    writes,
+                })
+            }
             None => Err(Refusal::UnknownItem),
         }
     }

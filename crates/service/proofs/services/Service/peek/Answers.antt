@@ -12,7 +12,7 @@ pub returns-in-Some : need.returns-in-Some
 returns-in-Some g c =
     let vs = g .S·Store .versions (c .args .self .now .store) in
     let v = got vs (c .args .item) (c .in-Some .version) (sym (c .in-Some .ensures tt)) in
-    looked-known (stateOf (g .S·Store .versions) (c .args .self .now)) (c .args .item) (c .in-Some .version) (c .count .result) (c .count-in-Some .result) (v .0) (v .1) (c .count .ensures) (c .count-in-Some .ensures)
+    looked-known (stateOf (g .S·Store .versions) (c .args .self .now)) (c .args .item) (c .in-Some .version) _ _ (v .0) (v .1) (c .token-counts-reads .ensures .reads) (c .token-counts-reads .ensures .writes)
 
 pub returns-in-None : need.returns-in-None
 returns-in-None g c =
