@@ -16,3 +16,6 @@ pub mod Stamps
 pub mod Shortcuts
 pub mod Example
 mod Onward
+mod Latest
+mod Works
+mod Replays

@@ -4,8 +4,14 @@ ghost use Rattle.history.specs.Runs.{Serial-order, Queues-hold, Refusals-keep,
 ghost use Rattle.history.specs.Shortcuts.{Shortcuts-break};
 ghost use Rattle.history.specs.Example.{Example-meets};
 
+mod reports;
 mod runs;
 
+pub use reports::Cell;
+pub use reports::Event;
+pub use reports::all_settled;
+pub use reports::committed_stamps;
+pub use reports::serial_run;
 pub use runs::Outcome;
 pub use runs::resume;
 pub use runs::run;

@@ -15,8 +15,12 @@ mod tools;
 mod transactions;
 
 pub use calls::Answer;
+pub use calls::AnswerDebug;
+pub use calls::AnswerPartialEq;
 pub use calls::Call;
 pub use cases::worked_cases;
 pub use looks::Look;
 pub use refusals::Refusal;
+pub use refusals::RefusalDebug;
+pub use refusals::RefusalPartialEq;
 pub use services::Service;
