@@ -11,6 +11,13 @@ use Rattle.frame.specs.declared.faults.Fault.{Fault}
 use Rattle.frame.specs.declared.faults.Fault.the-variants.{Room}
 use Rattle.frame.specs.declared.drafts.Draft.{Draft}
 
+-- the longest request, that of a write, and the longest reply, that of a close
+abbrev pub longestRequest : ℕ
+longestRequest = 20
+
+abbrev pub longestReply : ℕ
+longestReply = 15
+
 -- the fields that were put
 abbrev pub contents : Draft → List ℕ
 contents d = take (d .used) (d .bytes)

@@ -17,12 +17,9 @@ use Rattle.history.specs.Runs.{Run, Runs}
 use Rattle.frame.specs.declared.faults.Fault.{Fault}
 use Rattle.frame.specs.declared.faults.Fault.the-variants.{Room}
 use Rattle.frame.specs.Fields.{bind}
+use Rattle.frame.specs.Drafts.{longestReply}
 use Rattle.frame.specs.Requests.{readRequest}
 use Rattle.frame.specs.Replies.{Reply, replyOf, readReply}
-
--- the longest reply, that of a close
-abbrev pub longestReply : ℕ
-longestReply = 15
 
 -- the call that a frame asks for, if there is room for any reply
 abbrev pub accepted : List ℕ → List ℕ → Result Call Fault

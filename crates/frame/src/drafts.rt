@@ -3,19 +3,17 @@ ghost use mathlib.Core.Path.{_≡_};
 ghost use mathlib.Core.List.{_++_, []};
 ghost use Prim.Native.Nat.{_+_, _≤_};
 ghost use Rattle.frame.specs.Fields.{width as widthOf, field as fieldOf};
-ghost use Rattle.frame.specs.Drafts.{contents, written};
+ghost use Rattle.frame.specs.Drafts.{contents, longestRequest, written};
 use crate::faults::Fault;
 use crate::kinds::HEAD;
 use crate::kinds::Kind;
+use crate::kinds::LONGEST_REQUEST;
 use crate::numbers::write_number;
-
-// The longest frame, that of a write: tool, call, item and value.
-const LONGEST: usize = 20;
 
 // The fields of a frame, in the bytes that are in use.
 #[derive(Drop)]
 pub(crate) struct Draft {
-    bytes: [u8; LONGEST],
+    bytes: [u8; LONGEST_REQUEST],
     used: usize,
 }
 
@@ -25,14 +23,14 @@ impl Draft {
         ensures contents { λ r. ⌜ contents r ≡ [] ⌝ }
     {
         Draft {
-            bytes: [0; LONGEST],
+            bytes: [0; LONGEST_REQUEST],
             used: 0,
         }
     }
 
     // Adds a field.
     pub(crate) fn put(&mut self, kind: Kind, number: u64)
-        requires { ⌜ now self .used + (3 + widthOf kind) ≤ 20 ⌝ }
+        requires { ⌜ now self .used + (3 + widthOf kind) ≤ longestRequest ⌝ }
         ensures used { λ _. ⌜ now (self .exit) .used ≡ now (self .entry) .used + (3 + widthOf kind) ⌝ }
         ensures contents { λ _. ⌜ contents (now (self .exit)) ≡ contents (now (self .entry)) ++ fieldOf kind number ⌝ }
     {
@@ -47,7 +45,7 @@ impl Draft {
 
     // Copies the frame to the front of the buffer and answers its length; later bytes stay.
     pub(crate) fn copy_to(&self, buffer: &mut [u8]) -> Result<usize, Fault>
-        requires { ⌜ now self .used ≤ 20 ⌝ }
+        requires { ⌜ now self .used ≤ longestRequest ⌝ }
         ensures { λ r. ⌜ (r, now (buffer .exit)) ≡ written (contents (now (self .entry))) (now (buffer .entry)) ⌝ }
     {
         if buffer.len() < self.used {

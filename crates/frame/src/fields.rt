@@ -6,7 +6,7 @@ ghost use Rattle.std.specs.Vec.{made};
 ghost use Rattle.frame.specs.declared.kinds.Kind.the-variants.{Tool, Call, Item, Value, Tick, Stamp, Answer};
 ghost use Rattle.frame.specs.Fields.{width as widthOf, taken, Reads};
 ghost use Rattle.frame.specs.Requests.{ended};
-ghost use Rattle.frame.specs.Parts.{contentOf, Found};
+ghost use Rattle.frame.specs.Parts.{kindOf, contentOf, Found};
 use crate::faults::Fault;
 use crate::kinds::Kind;
 use crate::numbers::read_number;
@@ -28,7 +28,8 @@ pub(crate) enum Field<'a> {
 
 impl<'a> Field<'a> {
     fn new(kind: Kind, content: &'a [u8]) -> Field<'a>
-        ensures { λ r. ⌜ now (contentOf r) ≡ now (content .entry) ⌝ }
+        ensures kind { λ r. ⌜ kindOf r ≡ kind ⌝ }
+        ensures content { λ r. ⌜ now (contentOf r) ≡ now (content .entry) ⌝ }
     {
         match kind {
             Kind::Tool => Field::Tool(content),

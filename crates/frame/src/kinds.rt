@@ -22,6 +22,11 @@ const STAMP: usize = size_of::<Stamp>();
 
 const ANSWER: usize = size_of::<u8>();
 
+// The longest request, that of a write, and the longest reply, that of a close.
+pub(crate) const LONGEST_REQUEST: usize = HEAD + TOOL + HEAD + CALL + HEAD + ITEM + HEAD + VALUE;
+
+pub(crate) const LONGEST_REPLY: usize = HEAD + ANSWER + HEAD + STAMP;
+
 #[derive(Clone, Copy, PartialEq, Eq, Debug)]
 pub(crate) enum Kind {
     Tool,

@@ -9,6 +9,8 @@ mod requests;
 mod serving;
 
 pub use faults::Fault;
+pub use faults::FaultDebug;
+pub use faults::FaultPartialEq;
 pub use replies::Reply;
 pub use replies::read_reply;
 pub use replies::replies_have_one_frame;
@@ -18,3 +20,6 @@ pub use requests::read_request;
 pub use requests::requests_have_one_frame;
 pub use requests::write_request;
 pub use serving::serve;
+
+#[cfg(test)]
+mod tests;

@@ -6,7 +6,7 @@ ghost use Rattle.std.specs.Vec.{made};
 ghost use Rattle.std.specs.declared.result.Result.the-variants.{Ok};
 ghost use Rattle.service.specs.declared.calls.Call.{Call as Asked};
 ghost use Rattle.frame.specs.Fields.{Reads};
-ghost use Rattle.frame.specs.Drafts.{contents, written};
+ghost use Rattle.frame.specs.Drafts.{contents, longestReply, written};
 ghost use Rattle.frame.specs.Replies.{replyOf, firstWith, refusalWith, gives, takenAnswer, readReply, Suits, ReplyFits, Replies-one-frame};
 use crate::drafts::Draft;
 use crate::faults::Fault;
@@ -18,9 +18,6 @@ use service::Refusal;
 
 // The answer of an accepted call; any other is the number of a refusal.
 const ACCEPTED: u8 = 0;
-
-// That of a close: answer and stamp.
-pub(crate) const LONGEST_REPLY: usize = 15;
 
 const REFUSALS: [Refusal; 15] = [
     Refusal::UnknownTool,
@@ -45,7 +42,7 @@ pub type Reply = Result<Answer, Refusal>;
 
 fn draft(reply: Reply) -> Draft
     ensures contents { λ r. ⌜ contents r ≡ replyOf reply ⌝ }
-    ensures short { λ r. ⌜ r .used ≤ 15 ⌝ }
+    ensures short { λ r. ⌜ r .used ≤ longestReply ⌝ }
     ensures fits { λ _. ⌜ ReplyFits reply ⌝ }
 {
     let mut frame = Draft::new();

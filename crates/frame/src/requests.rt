@@ -5,7 +5,7 @@ ghost use lib.ListN.{take};
 ghost use Rattle.std.specs.Vec.{made};
 ghost use Rattle.std.specs.declared.result.Result.the-variants.{Ok};
 ghost use Rattle.frame.specs.Fields.{Reads};
-ghost use Rattle.frame.specs.Drafts.{contents};
+ghost use Rattle.frame.specs.Drafts.{contents, longestRequest};
 ghost use Rattle.frame.specs.Requests.{number as numberOf, frameOf, requested, writtenRequest, takenCall, readRequest};
 ghost use Rattle.frame.specs.RoundTrip.{Requests-one-frame};
 use crate::drafts::Draft;
@@ -110,7 +110,7 @@ fn number(call: Call) -> u8
 
 fn draft(call: Call) -> Draft
     ensures contents { λ r. ⌜ contents r ≡ frameOf call ⌝ }
-    ensures fits { λ r. ⌜ r .used ≤ 20 ⌝ }
+    ensures fits { λ r. ⌜ r .used ≤ longestRequest ⌝ }
 {
     let mut frame = Draft::new();
     frame.put(Kind::Tool, u64::from(call.tool()));

@@ -1,7 +1,7 @@
 // Frames served by a service.
 ghost use Rattle.frame.specs.Serving.{accepted, Serves};
 use crate::faults::Fault;
-use crate::replies::LONGEST_REPLY;
+use crate::kinds::LONGEST_REPLY;
 use crate::replies::write_reply;
 use crate::requests::read_request;
 use service::Service;

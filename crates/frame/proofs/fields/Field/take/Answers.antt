@@ -21,10 +21,15 @@ returns c =
     let three : 3 ≤ length frame = omega (arith, some-width k) in
     let long : 3 + width k ≤ length frame = omega arith in
     let content : now (contentOf (c .new .result)) ≡ part 3 (width k) frame =
-    c .new .ensures ∙ (c .split-at .ensures .front ∙ (ap (take (c .width-width .result)) rest ∙ ap (λ n. take n (drop 3 frame)) w)) in
+    c .new .ensures .content ∙ (c .split-at .ensures .front ∙ (ap (take (c .width-width .result)) rest ∙ ap (λ n. take n (drop 3 frame)) w)) in
     let back : now (c .split-at .result .1) ≡ drop (3 + width k) frame =
     c .split-at .ensures .back ∙ (ap (drop (c .width-width .result)) rest ∙ (ap (λ n. drop n (drop 3 frame)) w ∙ drop-drop (width k) 3 frame)) in
     let sized : numberIn (part 1 2 frame) ≡ width k = length-bytes frame three ∙ (sym (c .from-be-bytes .ensures) ∙ (c .if-from-be-bytes-width .left ∙ w)) in
     let is = found k frame long (c .if-tag .left ∙ c .tag .ensures) sized in
     let ln = c .split-at .ensures .front-len in
-    (cc (is, content, back), ap length (c .new .ensures) ∙ (ln ∙ w))
+    record {
+      kind = c .new .ensures .kind;
+      content = content;
+      size = ap length (c .new .ensures .content) ∙ (ln ∙ w);
+      reads = cc (is, content, back);
+    }
