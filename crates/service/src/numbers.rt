@@ -26,6 +26,26 @@ impl Refusal {
         }
     }
 
+    pub fn meaning(self) -> &'static str {
+        match self {
+            Refusal::UnknownTool => "no such tool",
+            Refusal::WrongState => "the tool's state does not allow it",
+            Refusal::UnknownItem => "no such item",
+            Refusal::TooManyEntries => "a ninth item in one transaction",
+            Refusal::TickTooLarge => "the tick is too large",
+            Refusal::CounterSpent => "the counters are spent",
+            Refusal::NoEntry => "the transaction does not use the item",
+            Refusal::HasToken => "the item is certified already",
+            Refusal::VersionChanged => "another version was read",
+            Refusal::BehindWrite => "a later write is in the store",
+            Refusal::WriteBetween => "a certified write lies between",
+            Refusal::BehindRead => "a later read was settled",
+            Refusal::ReadStands => "a later read is certified",
+            Refusal::NotCertified => "an item is not certified",
+            Refusal::NoToken => "the item has no token to settle",
+        }
+    }
+
     // Whether a certification was rejected, so that its tool has failed.
     pub fn is_rejection(self) -> bool
         ensures { λ r. ⌜ r ≡ rejects self ⌝ }

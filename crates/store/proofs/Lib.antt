@@ -1,5 +1,13 @@
+mod Compacts
+mod Ends
+mod Images
+mod Lasts
+mod LogLaws
 mod Made
 mod Numbers
+mod PairLaws
+mod Passes
 mod Places
 mod RoundTrip
+mod Shifts
 mod TableLaws

@@ -1,8 +1,8 @@
 -- A list that is made from a function of the place: what stands at a place, and one place set. Assumes nothing.
-use mathlib.Core.Path.{_≡_, sym, ap, _∙_}
+use mathlib.Core.Path.{_≡_, refl, sym, ap, _∙_}
 use mathlib.Core.List.{map}
 use mathlib.Core.Logic.{⊎-elim}
-use Prim.Native.Nat.{ℕ, _≤_, _<_}
+use Prim.Native.Nat.{ℕ, zero, suc, _+_, _≤_, _<_}
 use native.Mathlib.Omega.{arith}
 use lib.ListN.{getD, set}
 use Rattle.std.specs.Iters.{counting}
@@ -40,3 +40,10 @@ nth-made-past f n i past = let long = length-map-counting f 0 n in nth-past _ i 
 
 pub set-made-past : {X : Type 0} (f : ℕ → X) (n i : ℕ) (x : X) → n ≤ i → set (map f (counting 0 n)) i x ≡ map f (counting 0 n)
 set-made-past f n i x past = let long = length-map-counting f 0 n in set-past _ i x (omega arith)
+
+pub map-same : {X : Type 0} (f g : ℕ → X) (n : ℕ) → ((k : ℕ) → f k ≡ g k) → map f (counting 0 n) ≡ map g (counting 0 n)
+map-same f g n same = from 0 n
+  where
+    from : (a m : ℕ) → map f (counting a m) ≡ map g (counting a m)
+    from a zero = refl
+    from a (suc m) = cc (same a, from (a + 1) m)

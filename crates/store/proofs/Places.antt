@@ -6,7 +6,7 @@ use Prim.Native.Nat.{ℕ, _+_, _-_, _≤_, _<_}
 use native.Mathlib.Omega.{arith}
 use borrow.Author.Needs.{needs}
 use lib.ListN.{length, take, drop, getD}
-use Rattle.std.proofs.shelf.Lists.{places, same-lists, length-append, length-take, length-drop}
+use Rattle.std.proofs.shelf.Lists.{places, same-lists, length-append, length-take, length-take-le, length-drop, append-assoc, take-at, drop-at, drop-drop}
 use Rattle.store.specs.Bytes.{part, over}
 
 pub length-over : (at : ℕ) (new buffer : List ℕ) → at + length new ≤ length buffer → length (over at new buffer) ≡ length buffer
@@ -38,3 +38,24 @@ part-over-other at size from new buffer fits (inl before) =
     same-lists _ _ (simp (length-take, length-drop, length-append) (omega arith)) (λ k d h. grind (arith, places))
 part-over-other at size from new buffer fits (inr behind) =
     same-lists _ _ (simp (length-take, length-drop, length-append) (omega arith)) (λ k d h. grind (arith, places))
+
+-- what stands before and after the bytes that were written
+pub take-over :
+    (at n : ℕ) (new buffer : List ℕ) → at ≤ length buffer → n ≡ at + length new → take n (over at new buffer) ≡ take at buffer ++ new
+take-over at n new buffer within is =
+    ap (take n) (sym (append-assoc (take at buffer) new (drop (at + length new) buffer)))
+    ∙ take-at (take at buffer ++ new) (drop (at + length new) buffer) n (length-append (take at buffer) new ∙ omega (arith, length-take-le at buffer within))
+
+pub drop-over :
+    (at n : ℕ) (new buffer : List ℕ) → at ≤ length buffer → at + length new ≤ n → drop n (over at new buffer) ≡ drop n buffer
+drop-over at n new buffer within past =
+    let seam : ℕ = at + length new in
+    let rest : drop seam (over at new buffer) ≡ drop seam buffer =
+    ap (drop seam) (sym (append-assoc (take at buffer) new (drop seam buffer)))
+    ∙ drop-at (take at buffer ++ new) (drop seam buffer) seam (length-append (take at buffer) new ∙ omega (arith, length-take-le at buffer within)) in
+    let more : seam + (n - seam) ≡ n = omega arith in
+    ap (λ k. drop k (over at new buffer)) (sym more)
+    ∙ sym (drop-drop (n - seam) seam (over at new buffer))
+    ∙ ap (drop (n - seam)) rest
+    ∙ drop-drop (n - seam) seam buffer
+    ∙ ap (λ k. drop k buffer) more

@@ -6,6 +6,8 @@ ghost use Rattle.store.specs.Faults.{number as numberOf, meaning as meaningOf}
 pub enum Fault {
     Count,
     Length,
+    Record,
+    Trailing,
 }
 
 impl Fault {
@@ -15,6 +17,8 @@ impl Fault {
         match self {
             Fault::Count => 30,
             Fault::Length => 31,
+            Fault::Record => 32,
+            Fault::Trailing => 33,
         }
     }
 
@@ -25,6 +29,8 @@ impl Fault {
         match self {
             Fault::Count => "the count of items is 0 or above 256",
             Fault::Length => "the buffer is above 65536 bytes, or too short for its items",
+            Fault::Record => "a log record has a wrong tag, length or item",
+            Fault::Trailing => "a byte after the log's end is not 0",
         }
     }
 }

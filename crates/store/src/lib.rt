@@ -8,10 +8,17 @@ ghost use Rattle.store.specs.declared.Version.{Version};
 
 mod areas;
 mod faults;
+mod logs;
 mod packed;
+mod pairs;
+mod records;
 mod tables;
 
 pub use faults::Fault;
+pub use logs::Log;
+pub use logs::LogStore;
+pub use pairs::Pair;
+pub use pairs::PairStore;
 pub use tables::Table;
 pub use tables::TableStore;
 
@@ -39,7 +46,7 @@ pub const MOST_BYTES: usize = 65536;
 pub trait Store {
     ghost versions: { Self → List Version };
 
-    law few: { (s : Self) → length (versions s) ≤ 256 };
+    ghost few: { (s : Self) → length (versions s) ≤ 256 };
 
     fn count(&self) -> u16
         ensures { λ r. ⌜ r ≡ length (versions (now (self .entry))) ⌝ };

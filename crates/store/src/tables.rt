@@ -6,7 +6,8 @@ ghost use lib.ListN.{length, set};
 ghost use denote.Ref.{now};
 ghost use Rattle.std.specs.shelf.Maps.{nth};
 ghost use Rattle.store.specs.Packed.{versionSize};
-ghost use Rattle.store.specs.Table.{table, afterPut, checked, opened};
+ghost use Rattle.store.specs.Few.{few-made};
+ghost use Rattle.store.specs.Table.{table, versionAt, afterPut, checked, opened};
 use crate::Item;
 use crate::MOST_BYTES;
 use crate::MOST_ITEMS;
@@ -62,16 +63,16 @@ impl<'a> Table<'a> {
     {
         self.area.bytes
     }
-}
 
-pub impl Store for Table<'_> as TableStore {
-    ghost versions = { λ t. table (now (t .area .bytes)) (t .count) };
-
-    fn count(&self) -> u16 {
+    fn items(&self) -> u16
+        ensures { λ r. ⌜ r ≡ length (table (now (now (self .entry) .area .bytes)) (now (self .entry) .count)) ⌝ }
+    {
         self.count
     }
 
-    fn get(&self, item: Item) -> Option<Version> {
+    fn read(&self, item: Item) -> Option<Version>
+        ensures { λ r. ⌜ r ≡ nth (table (now (now (self .entry) .area .bytes)) (now (self .entry) .count)) item ⌝ }
+    {
         if item >= self.count {
             return None;
         }
@@ -79,7 +80,7 @@ pub impl Store for Table<'_> as TableStore {
         packed::unpack(&self.area.bytes[at..at + RECORD])
     }
 
-    fn put(&mut self, item: Item, version: Version)
+    fn write(&mut self, item: Item, version: Version)
         ensures versions { λ _. ⌜ table (now (now (self .exit) .area .bytes)) (now (self .exit) .count) ≡ set (table (now (now (self .entry) .area .bytes)) (now (self .entry) .count)) item version ⌝ }
         ensures bytes { λ _. ⌜ now (now (self .exit) .area .bytes) ≡ afterPut (now (now (self .entry) .area .bytes)) (now (self .entry) .count) item version ⌝ }
         ensures items { λ _. ⌜ now (self .exit) .count ≡ now (self .entry) .count ⌝ }
@@ -88,5 +89,28 @@ pub impl Store for Table<'_> as TableStore {
             self.area
                 .write(RECORD * item as usize, &packed::pack(version));
         }
+    }
+}
+
+pub impl Store for Table<'_> as TableStore {
+    ghost versions = { λ t. table (now (t .area .bytes)) (t .count) };
+
+    ghost few = { λ t. few-made (versionAt (now (t .area .bytes))) (t .count) (t .few) };
+
+    fn count(&self) -> u16 {
+        self.items()
+    }
+
+    fn get(&self, item: Item) -> Option<Version> {
+        self.read(item)
+    }
+
+    // Beside the versions: what every byte of the buffer is.
+    fn put(&mut self, item: Item, version: Version)
+        ensures versions { λ _. ⌜ table (now (now (self .exit) .area .bytes)) (now (self .exit) .count) ≡ set (table (now (now (self .entry) .area .bytes)) (now (self .entry) .count)) item version ⌝ }
+        ensures bytes { λ _. ⌜ now (now (self .exit) .area .bytes) ≡ afterPut (now (now (self .entry) .area .bytes)) (now (self .entry) .count) item version ⌝ }
+        ensures items { λ _. ⌜ now (self .exit) .count ≡ now (self .entry) .count ⌝ }
+    {
+        self.write(item, version);
     }
 }

@@ -1,6 +1,0 @@
-use mathlib.Core.Path.{sym}
-use Rattle.std.proofs.shelf.Counted.{length-map-counting}
-use Rattle.store.proofs.tables.TableStore.count.Needs as need
-
-pub returns : need.returns
-returns c = sym (length-map-counting _ _ _)
