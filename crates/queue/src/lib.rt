@@ -79,7 +79,7 @@ impl<T: Token> Queue<T> {
         slices::youngest(self.tokens(), item)
     }
 
-    fn tokens(&self) -> &[T]
+    pub fn tokens(&self) -> &[T]
         ensures { λ r. ⌜ now r ≡ tokens (now (self .entry)) ⌝ }
     {
         let places = &self.places[..];

@@ -5,6 +5,7 @@ pub mod Room
 pub mod Seats
 pub mod Sound
 mod Prefixes
+mod Lists
 mod Places
 mod Replies
 mod Acts

@@ -14,7 +14,7 @@ use Rattle.service.specs.declared.tools.Entry.{Entry}
 use Rattle.service.specs.Entries.{isHeld, blank, allHeld, anyHeld, indexFrom}
 
 module _ (xs : List Entry) (n k : ℕ) where
-  past : n ≤ k → drop k (take n xs) ≡ []
+  pub past : n ≤ k → drop k (take n xs) ≡ []
   past h = drop-all k (take n xs) (let e = length-take n xs in omega arith)
 
   pub all-ends : n ≤ k → allHeld (drop k (take n xs)) ≡ true
@@ -27,7 +27,7 @@ module _ (xs : List Entry) (n k : ℕ) where
   index-ends m i h = rw (past h)
 
 module _ (xs : List Entry) (n k : ℕ) (fits : n ≤ length xs) where
-  more : k < n → drop k (take n xs) ≡ getD xs k (blank 0) ∷ drop (k + 1) (take n xs)
+  pub more : k < n → drop k (take n xs) ≡ getD xs k (blank 0) ∷ drop (k + 1) (take n xs)
   more h =
       let l : k < length (take n xs) = rw (length-take-le n xs fits) h in
       drop-more (take n xs) k (blank 0) l ∙ ap (λ (e : Entry). e ∷ drop (k + 1) (take n xs)) (getD-take n xs k (blank 0) h)

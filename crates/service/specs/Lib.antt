@@ -6,3 +6,4 @@ pub mod Sound
 pub mod Desks
 pub mod Services
 pub mod Cases
+pub mod Views

@@ -1,6 +1,6 @@
 // Each refusal's number and what it means in words.
 ghost use mathlib.Core.Path.{_≡_};
-ghost use Rattle.service.specs.Refusals.{number};
+ghost use Rattle.service.specs.Refusals.{number, rejects};
 use crate::refusals::Refusal;
 
 impl Refusal {
@@ -43,6 +43,29 @@ impl Refusal {
             Refusal::ReadStands => "a later read is certified",
             Refusal::NotCertified => "an item is not certified",
             Refusal::NoToken => "the item has no token to settle",
+        }
+    }
+
+    // Whether a certification was rejected, so that its tool has failed.
+    pub fn is_rejection(self) -> bool
+        ensures { λ r. ⌜ r ≡ rejects self ⌝ }
+    {
+        match self {
+            Refusal::VersionChanged
+            | Refusal::BehindWrite
+            | Refusal::WriteBetween
+            | Refusal::BehindRead
+            | Refusal::ReadStands => true,
+            Refusal::UnknownTool
+            | Refusal::WrongState
+            | Refusal::UnknownItem
+            | Refusal::TooManyEntries
+            | Refusal::TickTooLarge
+            | Refusal::CounterSpent
+            | Refusal::NoEntry
+            | Refusal::HasToken
+            | Refusal::NotCertified
+            | Refusal::NoToken => false,
         }
     }
 }
