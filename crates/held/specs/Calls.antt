@@ -54,6 +54,10 @@ module _ {S : Type 0} (versions : S → List Version) where
     none : {x : Service S} → Made x [] x
     more : {x y z : Service S} {cs : List Call} (c : Call) (a : Result Answer Refusal) → Makes versions x c a y → Made y cs z → Made x (c ∷ cs) z
 
+  -- x makes these calls up to the first refusal, if there is one, and is y afterwards
+  pub data MadeUpTo : Service S → List Call → Option Refusal → Service S → Type 0 where
+    up-to : {x y : Service S} {cs : List Call} {o : Option Refusal} → Made x (upToRefusal (stateOf versions x) cs) y → o ≡ firstRefusal (stateOf versions x) cs → MadeUpTo x cs o y
+
   -- x does this, answers a, and is y afterwards; whatever run from start led to x goes on with the calls, and keeps
   -- the law
   pub record Performs {A : Type 0} (x : Service S) (d : State → Deed A) (a : A) (y : Service S) : Type 0 where

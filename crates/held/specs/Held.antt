@@ -1,5 +1,6 @@
 -- What each operation of a held transaction calls and answers.
-use mathlib.Core.Bool.{Bool, cond, _||_}
+use mathlib.Core.Path.{_≡_}
+use mathlib.Core.Bool.{Bool, false, cond, _||_}
 use mathlib.Core.List.{List, [], _∷_, _++_, map}
 use Prim.Native.Nat.{ℕ}
 use Rattle.std.specs.declared.option.Option.{Option}
@@ -9,15 +10,14 @@ use Rattle.std.specs.declared.result.Result.the-variants.{Ok, Err}
 use Rattle.service.specs.declared.refusals.Refusal.{Refusal}
 use Rattle.service.specs.declared.refusals.Refusal.the-variants.{WrongState}
 use Rattle.service.specs.declared.calls.Call.{Call}
-use Rattle.service.specs.declared.calls.Call.the-variants.{Begin, Read, Write, Close, Certify, Commit, Abort, Settle}
+use Rattle.service.specs.declared.calls.Call.the-variants.{Certify, Commit, Abort, Settle}
 use Rattle.service.specs.declared.calls.Answer.{Answer}
-use Rattle.service.specs.declared.calls.Answer.the-variants.{Done, Value, Stamp}
+use Rattle.service.specs.declared.calls.Answer.the-variants.{Done, Stamp}
 use Rattle.service.specs.declared.tools.Phase.the-variants.{Closed as IsClosed, Failed as HasFailed}
 use Rattle.service.specs.Refusals.{rejects}
 use Rattle.service.specs.Service.{State, toolOf, step}
 use Rattle.service.specs.Services.{without}
 use Rattle.service.specs.Views.{isUnder, heldItems, bareItems, tokensStand}
-use Rattle.history.specs.Transactions.{stampIn}
 use Rattle.held.specs.declared.transactions.Open.{Open}
 use Rattle.held.specs.declared.transactions.Closed.{Closed}
 use Rattle.held.specs.declared.transactions.Grant.{Grant}
@@ -34,39 +34,33 @@ abbrev pub orBack : {B : Type 0} → B → Result (Unit {0}) Refusal → Result 
 orBack b (Ok u) = Ok u
 orBack b (Err r) = Err (r, b)
 
--- the open transaction
+-- the open transaction: its operations are single calls
 
-abbrev pub opened : ℕ → Result Answer Refusal → Result Open Refusal
-opened t (Ok a) = Ok (record { tool = t })
-opened t (Err r) = Err r
+-- what the call answered
+abbrev pub begun : Result Open Refusal → Result Answer Refusal
+begun (Ok o) = Ok Done
+begun (Err r) = Err r
 
-abbrev pub begins : ℕ → State → Deed (Result Open Refusal)
-begins t = only (Begin t) (opened t)
+abbrev pub closedAt : Result Closed (Refusal × Open) → Result Answer Refusal
+closedAt (Ok x) = Ok (Stamp (x .stamp))
+closedAt (Err p) = Err (p .0)
 
-abbrev pub valueIn : Answer → ℕ
-valueIn Done = 0
-valueIn (Value v) = v
-valueIn (Stamp n) = 0
+abbrev pub ended : {B : Type 0} → Result (Unit {0}) (Refusal × B) → Result Answer Refusal
+ended (Ok u) = Ok Done
+ended (Err p) = Err (p .0)
 
-abbrev pub valueOf : Result Answer Refusal → Result ℕ Refusal
-valueOf (Ok a) = Ok (valueIn a)
-valueOf (Err r) = Err r
+-- whose transaction is in hand then
+abbrev pub BegunFor : ℕ → Result Open Refusal → Type 0
+BegunFor t (Ok o) = o .tool ≡ t
+BegunFor t (Err r) = Unit
 
-abbrev pub reads : Open → ℕ → State → Deed (Result ℕ Refusal)
-reads o i = only (Read (o .tool) i) valueOf
+abbrev pub ClosedFrom : Open → Result Closed (Refusal × Open) → Type 0
+ClosedFrom o (Ok x) = x .tool ≡ o .tool
+ClosedFrom o (Err p) = p .1 ≡ o
 
-abbrev pub writes : Open → ℕ → ℕ → State → Deed (Result (Unit {0}) Refusal)
-writes o i v = only (Write (o .tool) i v) without
-
-abbrev pub closed : Open → Result Answer Refusal → Result Closed (Refusal × Open)
-closed o (Ok a) = Ok (record { tool = o .tool; stamp = stampIn a 0 })
-closed o (Err r) = Err (r, o)
-
-abbrev pub closes : Open → ℕ → State → Deed (Result Closed (Refusal × Open))
-closes o k = only (Close (o .tool) k) (closed o)
-
-abbrev pub aborts : Open → State → Deed (Result (Unit {0}) (Refusal × Open))
-aborts o = only (Abort (o .tool)) (λ a. orBack o (without a))
+abbrev pub Back : {B : Type 0} → B → Result (Unit {0}) (Refusal × B) → Type 0
+Back b (Ok u) = Unit
+Back b (Err p) = p .1 ≡ b
 
 -- the closed one
 
@@ -80,27 +74,30 @@ isAbortable s t st = isUnder IsClosed s t st || isUnder HasFailed s t st
 abbrev pub abortsClosed : Closed → State → Deed (Result (Unit {0}) (Refusal × Closed))
 abortsClosed x s = onlyIf (isAbortable s (x .tool) (x .stamp)) (Err (WrongState, x)) (only (Abort (x .tool)) (λ a. orBack x (without a)) s)
 
--- a call, and then the settlement of every entry that holds a token, in the order of the entries
+-- the settlements of the entries that hold a token, in the order of the entries
+abbrev pub settlements : ℕ → State → List Call
+settlements t s = map (Settle t) (heldItems s t)
+
+-- a call, and then the settlement of everything
 abbrev pub settling : Call → State → List Call
-settling c s = c ∷ ifAccepted (step s c .0) (map (Settle (toolOf c)) (heldItems (step s c .1) (toolOf c)))
+settling c s = c ∷ ifAccepted (step s c .0) (settlements (toolOf c) (step s c .1))
 
 -- the certifications of the entries without a token, in the order of the entries
 abbrev pub certifications : ℕ → State → List Call
 certifications t s = map (Certify t) (bareItems s t)
 
+abbrev pub isRejection : Option Refusal → Bool
+isRejection None = false
+isRejection (Some r) = rejects r
+
 -- after a rejection it aborts and settles everything
 abbrev pub afterwards : ℕ → Option Refusal → State → List Call
-afterwards t None s = []
-afterwards t (Some r) s = cond (rejects r) (settling (Abort t) s) []
+afterwards t o s = cond (isRejection o) (settling (Abort t) s) []
 
 -- a rejection ends the transaction, and any other refusal hands it back
 abbrev pub granted : Closed → Option Refusal → Result Grant Uncertified
 granted x None = Ok (record { tool = x .tool; stamp = x .stamp })
 granted x (Some r) = Err (cond (rejects r) (Rejected r) (Refused r x))
-
-abbrev pub refusedBy : Option Refusal → Result (Unit {0}) Refusal
-refusedBy None = Ok tt
-refusedBy (Some r) = Err r
 
 abbrev pub certifying : Closed → State → Deed (Result Grant Uncertified)
 certifying x s = record {

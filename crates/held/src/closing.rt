@@ -2,13 +2,12 @@
 ghost use mathlib.Core.Path.{_≡_};
 ghost use Rattle.service.specs.Services.{stateOf};
 ghost use Rattle.held.specs.Calls.{Performs};
-ghost use Rattle.held.specs.Held.{isAbortable, abortsClosed, certifiesAll};
-use crate::steps::certify_each;
-use crate::steps::finish;
+ghost use Rattle.held.specs.Held.{isAbortable, abortsClosed, isRejection, granted, certifiesAll};
+use crate::steps::certify_bare;
+use crate::steps::undo;
 use crate::transactions::Closed;
 use crate::transactions::Grant;
 use crate::transactions::Uncertified;
-use service::Call;
 use service::Refusal;
 use service::Service;
 use store::Stamp;
@@ -19,6 +18,32 @@ fn is_abortable<S: Store>(service: &Service<S>, tool: u8, stamp: Stamp) -> bool
     ensures { λ r. ⌜ r ≡ isAbortable (stateOf versions (now (service .entry))) tool stamp ⌝ }
 {
     service.is_closed(tool, stamp) || service.is_failed(tool, stamp)
+}
+
+fn is_rejection(refusal: Option<Refusal>) -> bool
+    ensures { λ r. ⌜ r ≡ isRejection refusal ⌝ }
+{
+    match refusal {
+        Some(refusal) => refusal.is_rejection(),
+        None => false,
+    }
+}
+
+// A rejection ends the transaction, and any other refusal hands it back.
+fn granted(held: Closed, refusal: Option<Refusal>) -> Result<Grant, Uncertified>
+    ensures { λ r. ⌜ r ≡ granted held refusal ⌝ }
+{
+    let Closed { tool, stamp } = held;
+    match refusal {
+        None => Ok(Grant { tool, stamp }),
+        Some(refusal) => {
+            if refusal.is_rejection() {
+                Err(Uncertified::Rejected(refusal))
+            } else {
+                Err(Uncertified::Refused(refusal, Closed { tool, stamp }))
+            }
+        }
+    }
 }
 
 impl Closed {
@@ -37,16 +62,11 @@ impl Closed {
         if !service.is_closed(tool, stamp) {
             return Err(Uncertified::Refused(Refusal::WrongState, Closed { tool, stamp }));
         }
-        match certify_each(service, tool) {
-            Ok(()) => Ok(Grant { tool, stamp }),
-            Err(refusal) => {
-                if !refusal.is_rejection() {
-                    return Err(Uncertified::Refused(refusal, Closed { tool, stamp }));
-                }
-                let _ = finish(service, Call::Abort { tool });
-                Err(Uncertified::Rejected(refusal))
-            }
+        let refusal = certify_bare(service, tool);
+        if is_rejection(refusal) {
+            undo(service, tool);
         }
+        granted(Closed { tool, stamp }, refusal)
     }
 
     // Gives the transaction up; its tokens stand until they are settled.

@@ -9,3 +9,6 @@ pub use transactions::Closed;
 pub use transactions::Grant;
 pub use transactions::Open;
 pub use transactions::Uncertified;
+
+#[cfg(test)]
+mod tests;

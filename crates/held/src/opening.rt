@@ -1,6 +1,8 @@
 // The open transaction.
-ghost use Rattle.held.specs.Calls.{Performs};
-ghost use Rattle.held.specs.Held.{begins, reads, writes, closes, aborts};
+ghost use mathlib.Core.Path.{_≡_};
+ghost use Rattle.service.specs.declared.calls.Call.the-variants.{Begin, Read, Write, Close, Abort};
+ghost use Rattle.service.specs.Services.{Makes, done, valued};
+ghost use Rattle.held.specs.Held.{begun, BegunFor, closedAt, ClosedFrom, ended, Back};
 use crate::transactions::Closed;
 use crate::transactions::Open;
 use service::Refusal;
@@ -12,7 +14,8 @@ use store::Value;
 impl Open {
     // An idle tool opens a transaction, to be held.
     pub fn begin<S: Store>(service: &mut Service<S>, tool: u8) -> Result<Open, Refusal>
-        ensures { λ r. ⌜ Performs versions (now (service .entry)) (begins tool) r (now (service .exit)) ⌝ }
+        ensures makes { λ r. ⌜ Makes versions (now (service .entry)) (Begin tool) (begun r) (now (service .exit)) ⌝ }
+        ensures held { λ r. ⌜ BegunFor tool r ⌝ }
     {
         service.begin(tool)?;
         Ok(Open { tool })
@@ -20,7 +23,7 @@ impl Open {
 
     // The item's current value; a first use reads it from the store.
     pub fn read<S: Store>(&self, service: &mut Service<S>, item: Item) -> Result<Value, Refusal>
-        ensures { λ r. ⌜ Performs versions (now (service .entry)) (reads (now (self .entry)) item) r (now (service .exit)) ⌝ }
+        ensures { λ r. ⌜ Makes versions (now (service .entry)) (Read (now (self .entry) .tool) item) (valued r) (now (service .exit)) ⌝ }
     {
         service.read(self.tool, item)
     }
@@ -32,7 +35,7 @@ impl Open {
         item: Item,
         value: Value,
     ) -> Result<(), Refusal>
-        ensures { λ r. ⌜ Performs versions (now (service .entry)) (writes (now (self .entry)) item value) r (now (service .exit)) ⌝ }
+        ensures { λ r. ⌜ Makes versions (now (service .entry)) (Write (now (self .entry) .tool) item value) (done r) (now (service .exit)) ⌝ }
     {
         service.write(self.tool, item, value)
     }
@@ -43,7 +46,8 @@ impl Open {
         service: &mut Service<S>,
         tick: u64,
     ) -> Result<Closed, (Refusal, Open)>
-        ensures { λ r. ⌜ Performs versions (now (service .entry)) (closes self tick) r (now (service .exit)) ⌝ }
+        ensures makes { λ r. ⌜ Makes versions (now (service .entry)) (Close (self .tool) tick) (closedAt r) (now (service .exit)) ⌝ }
+        ensures held { λ r. ⌜ ClosedFrom self r ⌝ }
     {
         let Open { tool } = self;
         match service.close(tool, tick) {
@@ -54,7 +58,8 @@ impl Open {
 
     // Gives the transaction up.
     pub fn abort<S: Store>(self, service: &mut Service<S>) -> Result<(), (Refusal, Open)>
-        ensures { λ r. ⌜ Performs versions (now (service .entry)) (aborts self) r (now (service .exit)) ⌝ }
+        ensures makes { λ r. ⌜ Makes versions (now (service .entry)) (Abort (self .tool)) (ended r) (now (service .exit)) ⌝ }
+        ensures back { λ r. ⌜ Back self r ⌝ }
     {
         let Open { tool } = self;
         match service.abort(tool) {
