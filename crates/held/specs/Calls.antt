@@ -15,6 +15,11 @@ use Rattle.service.specs.Services.{stateOf, Makes}
 use Rattle.history.specs.History.{History}
 use Rattle.history.specs.Runs.{Run, Runs}
 
+-- the answer of a call that gives nothing else
+abbrev pub without : Result Answer Refusal → Result (Unit {0}) Refusal
+without (Ok a) = Ok tt
+without (Err r) = Err r
+
 -- the state after these calls
 abbrev pub after : State → List Call → State
 after s [] = s

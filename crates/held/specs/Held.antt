@@ -16,14 +16,13 @@ use Rattle.service.specs.declared.calls.Answer.the-variants.{Done, Stamp}
 use Rattle.service.specs.declared.tools.Phase.the-variants.{Closed as IsClosed, Failed as HasFailed}
 use Rattle.service.specs.Refusals.{rejects}
 use Rattle.service.specs.Service.{State, toolOf, step}
-use Rattle.service.specs.Services.{without}
 use Rattle.service.specs.Views.{isUnder, heldItems, bareItems, tokensStand}
 use Rattle.held.specs.declared.transactions.Open.{Open}
 use Rattle.held.specs.declared.transactions.Closed.{Closed}
 use Rattle.held.specs.declared.transactions.Grant.{Grant}
 use Rattle.held.specs.declared.transactions.Uncertified.{Uncertified}
 use Rattle.held.specs.declared.transactions.Uncertified.the-variants.{Rejected, Refused}
-use Rattle.held.specs.Calls.{after, ifAccepted, upToRefusal, firstRefusal, Deed}
+use Rattle.held.specs.Calls.{after, without, ifAccepted, upToRefusal, firstRefusal, Deed}
 
 -- one call, and what is made of its answer
 abbrev pub only : {A : Type 0} → Call → (Result Answer Refusal → A) → State → Deed A

@@ -1,6 +1,6 @@
 use mathlib.Core.Path.{sym, ap}
 use Rattle.std.proofs.shelf.Results.{err-from-errBy}
-use Rattle.service.specs.Services.{without}
+use Rattle.held.specs.Calls.{without}
 use Rattle.held.proofs.Made.{Stepped}
 use Rattle.held.proofs.Whole.{settled, not-settled}
 use Rattle.held.proofs.steps.finish.Needs as need

@@ -2,7 +2,7 @@ use mathlib.Core.Path.{refl, sym}
 use Rattle.std.specs.declared.result.Result.the-variants.{Err}
 use Rattle.service.specs.declared.refusals.Refusal.the-variants.{WrongState}
 use Rattle.service.specs.declared.calls.Call.the-variants.{Abort}
-use Rattle.service.specs.Services.{without}
+use Rattle.held.specs.Calls.{without}
 use Rattle.held.specs.Held.{isAbortable, only, orBack}
 use Rattle.held.proofs.Made.{held-off, single-through}
 use Rattle.held.proofs.transactions.Closed.abort.Needs as need
