@@ -143,13 +143,18 @@ fn show<S: Store>(rt: &LibcRuntime, service: &Service<S>) -> Result<(), Stop> {
     Ok(())
 }
 
+// The operator sets a limit, and the tuner works twice.
+fn session<S: Store + Drop>(rt: &LibcRuntime, store: S) -> Result<(), Stop> {
+    let mut service = Service::start(store);
+    lower_limit(&mut service, 60)?;
+    show(rt, &service)?;
+    tune(rt, &mut service, 100)?;
+    show(rt, &service)?;
+    tune(rt, &mut service, 20)?;
+    show(rt, &service)
+}
+
 fn main(rt: LibcRuntime) -> Result<(), Stop> {
     let mut buffer = [0; 40];
-    let mut service = Service::start(Table::open(&mut buffer, 2));
-    lower_limit(&mut service, 60)?;
-    show(&rt, &service)?;
-    tune(&rt, &mut service, 100)?;
-    show(&rt, &service)?;
-    tune(&rt, &mut service, 20)?;
-    show(&rt, &service)
+    session(&rt, Table::open(&mut buffer, 2))
 }
