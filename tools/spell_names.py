@@ -28,7 +28,7 @@ CHOSEN = {
 
 DECLARED = re.compile(
     r"^( *)((?:(?:pub|abbrev|unfoldable|record|data|mutual) +)*)([^\s:(){}λ.,;\[]+(?: +[^\s:(){}λ.,;\[]+)*?)"
-    r"((?: +[({].*[)}])*) +: +(.*)$"
+    r"((?: +[({].*[)}])*) +:(?: +(.*))?$"
 )
 LEMMAS = re.compile(r"crates/\w+/proofs/\w+\.antt")
 
@@ -50,7 +50,7 @@ def declared():
                 if not found or line.lstrip().startswith("--"):
                     continue
                 words = found[3].split()
-                if found[5].startswith("goal.") or words[0] in ("let", "use", "in", "module"):
+                if (found[5] or "").startswith("goal.") or words[0] in ("let", "use", "in", "module"):
                     continue
                 for word in words:
                     names.setdefault(word, set()).add(path)

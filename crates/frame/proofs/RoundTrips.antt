@@ -188,10 +188,10 @@ requests_one_frame = record {
 }
 
 -- a request's numbers fit their fields, and so do those of its call
-pub requested-fits :
+pub requested_fits :
     (q : Request) → Fits kind.Tool q.tool → Fits kind.Item q.item → Fits kind.Value q.value → Fits kind.Tick q.tick
     → (c : Call) → requested q ≡ Ok c → CallFits c
-requested-fits q tool item value tick c h =
+requested_fits q tool item value tick c h =
     ⊎_elim (λ (e, h). is h tool) (λ h.
     ⊎_elim (λ (e, h). is h (tool, item)) (λ h.
     ⊎_elim (λ (e, h). is h (tool, item, value)) (λ h.

@@ -8,10 +8,10 @@ use Rattle.frame.specs.declared.faults.Fault.TheVariants.{Room}
 use Rattle.frame.specs.Drafts.{written}
 
 -- where a length is answered, that many bytes of the buffer are the frame
-pub written-takes :
+pub written_takes :
     (frame buffer after : List ℕ) (r : Result ℕ Fault) (Q : List ℕ → Type 0)
     → ◌≡◌ {A = Result ℕ Fault × List ℕ} (r, after) (written frame buffer) → Q frame → IfOk r (λ n. Q (take n after))
-written-takes frame buffer after r Q is q =
+written_takes frame buffer after r Q is q =
     ⊎_elim
     (λ e. let h = is ∙ cond_true (ltb (length buffer) (length frame)) (Err Room, buffer) (Ok (length frame), over 0 frame buffer) e in
     subst (λ (x : Result ℕ Fault). IfOk x (λ n. Q (take n after))) (sym (ap (λ (p : Result ℕ Fault × List ℕ). p.0) h)) tt)

@@ -6,7 +6,7 @@ use Rattle.std.proofs.lemmas.List.{append_assoc, append-nil, drop-drop, drop_all
 use Rattle.store.specs.Bytes.{part, over}
 use Rattle.store.specs.Log.{record_at, last_place, kept, item_of}
 use Rattle.store.proofs.Lasts.{turn}
-use Rattle.store.proofs.Places.{length_part, length_over, take-over, drop-over}
+use Rattle.store.proofs.Places.{length_part, length_over, take_over, drop_over}
 
 -- the first n records of a buffer, and their bytes
 abbrev pub firsts : List ℕ → ℕ → List (List ℕ)
@@ -35,11 +35,11 @@ next old bytes place same =
     ∙ drop-drop 25 (25 * place) old
     ∙ ap (λ k. drop k old) step
 
-pub pass-drop :
+pub pass_drop :
     (old bytes : List ℕ) (n place end : ℕ) → Pass old bytes n place end → place < n
     → (last_place old n (item_of (record_at old place)) ≡ Some place → ⊥)
     → Pass old bytes n (place + 1) end
-pass-drop old bytes n place end p below later =
+pass_drop old bytes n place end p below later =
     let same = (turn (record_at old) n place below).later later in
     record {
       rest = next old bytes place p.rest;
@@ -52,11 +52,11 @@ pass-drop old bytes n place end p below later =
 pub moved_is : (old bytes : List ℕ) (place : ℕ) → drop (25 * place) bytes ≡ drop (25 * place) old → record_at bytes place ≡ record_at old place
 moved_is old bytes place same = ap (take 25) same
 
-pub pass-keep :
+pub pass_keep :
     (old bytes : List ℕ) (n place end : ℕ) → Pass old bytes n place end → place < n → 25 * n ≤ length old
     → last_place old n (item_of (record_at old place)) ≡ Some place
     → Pass old (over (25 * end) (part (25 * place) 25 bytes) bytes) n (place + 1) (end + 1)
-pass-keep old bytes n place end p below fits last =
+pass_keep old bytes n place end p below fits last =
     let split = (turn (record_at old) n place below).last last in
     let r : List ℕ = part (25 * place) 25 bytes in
     let new : List ℕ = over (25 * end) r bytes in
@@ -65,10 +65,10 @@ pass-keep old bytes n place end p below fits last =
     let long = p.long in
     let size = length_part (25 * place) 25 bytes (omega arith) in
     let later : List (List ℕ) = kept (drop (place + 1) (firsts old n)) in
-    let front : take (25 * (end + 1)) new ≡ take (25 * end) bytes ++ r = take-over (25 * end) (25 * (end + 1)) r bytes (omega arith) (omega arith) in
+    let front : take (25 * (end + 1)) new ≡ take (25 * end) bytes ++ r = take_over (25 * end) (25 * (end + 1)) r bytes (omega arith) (omega arith) in
     let count = p.count in
     record {
-      rest = drop-over (25 * end) (25 * (place + 1)) r bytes (omega arith) (omega arith) ∙ next old bytes place p.rest;
+      rest = drop_over (25 * end) (25 * (place + 1)) r bytes (omega arith) (omega arith) ∙ next old bytes place p.rest;
       front =
           ap (λ l. l ++ bytes_of later) front
           ∙ append_assoc (take (25 * end) bytes) r (bytes_of later)
@@ -81,10 +81,10 @@ pass-keep old bytes n place end p below fits last =
     }
 
 -- the same under other names
-pub pass-at :
+pub pass_at :
     (old bytes same : List ℕ) (n place end least : ℕ) → Pass old bytes n place end → same ≡ bytes → least ≡ end
     → Pass old same n place least
-pass-at old bytes same n place end least p e f =
+pass_at old bytes same n place end least p e f =
     subst (λ b. Pass old b n place least) (sym e) (subst (λ k. Pass old bytes n place k) (sym f) p)
 
 pub record Passed (old bytes : List ℕ) (n end : ℕ) : Type 0 where

@@ -4,7 +4,7 @@ use Rattle.std.proofs.lemmas.List.{get_or-take, get_or-drop}
 use Rattle.std.proofs.lemmas.Bool.{eq-eqb, ne_eqb}
 use Rattle.store.specs.Bytes.{part}
 use Rattle.store.specs.Log.{used, record_at}
-use Rattle.store.proofs.Passes.{leading-made}
+use Rattle.store.proofs.Passes.{leading_made}
 
 -- a byte of a part
 pub get_d_part : (at size k : ℕ) (buffer : List ℕ) → k < size → get_or (part at size buffer) k 0 ≡ get_or buffer (at + k) 0
@@ -15,13 +15,13 @@ tag_is buffer place =
     let at : 25 * place + 0 ≡ 25 * place = omega arith in
     get_d_part (25 * place) 25 0 buffer (omega arith) ∙ ap (λ k. get_or buffer k 0) at
 
-pub used-is :
+pub used_is :
     (buffer : List ℕ) (n : ℕ)
     → n ≤ length buffer / 25
     → ((k : ℕ) → k < n → get_or buffer (25 * k) 0 ≡ 0 → ⊥)
     → (n < length buffer / 25 → get_or buffer (25 * n) 0 ≡ 0)
     → used buffer ≡ n
-used-is buffer n within before stops =
-    leading-made (λ r. not (eqb (get_or r 0 0) 0)) (record_at buffer) (length buffer / 25) n within
+used_is buffer n within before stops =
+    leading_made (λ r. not (eqb (get_or r 0 0) 0)) (record_at buffer) (length buffer / 25) n within
     (λ k below. ap not (ne_eqb _ 0 (λ e. before k below (sym (tag_is buffer k) ∙ e))))
     (λ below. ap not (eq-eqb _ 0 (tag_is buffer n ∙ stops below)))

@@ -6,7 +6,7 @@ use Rattle.std.proofs.lemmas.List.{append_assoc, length-append, length-replicate
 use Rattle.std.proofs.lemmas.Bool.{and_parts, eqb-true, eqb-false, not-true, cases_lt}
 use Rattle.store.specs.Bytes.{part, over}
 use Rattle.store.specs.Log.{image, record_at, records, used}
-use Rattle.store.proofs.Ends.{used-is, tag_is}
+use Rattle.store.proofs.Ends.{used_is, tag_is}
 use Rattle.store.proofs.Passes.{all_at}
 
 -- a record as it stands in a buffer: it has its bytes, and a tag
@@ -55,7 +55,7 @@ past_image rs size k all past =
 pub used_image : (rs : List (List ℕ)) (size : ℕ) → list_all full rs ≡ true → 25 * length rs ≤ size → used (image rs size) ≡ length rs
 used_image rs size all room =
     let long = length_image rs size all room in
-    used-is (image rs size) (length rs) (omega arith)
+    used_is (image rs size) (length rs) (omega arith)
     (λ k below e.
     let tag = sym (tag_is (image rs size) k) ∙ ap (λ r. get_or r 0 0) (record_at_image rs size k all below) in
     let parts = and_parts (eqb (length (get_or rs k [])) 25) (not (eqb (get_or (get_or rs k []) 0 0) 0)) (all_at full rs k [] all below) in
@@ -71,10 +71,10 @@ pub joined_push : (rs : List (List ℕ)) (r : List ℕ) → flat_map (λ x. x) (
 joined_push rs r = sym (flat_map_more (λ x. x) [] rs r)
 
 -- one record more
-pub image-push :
+pub image_push :
     (rs : List (List ℕ)) (r : List ℕ) (size : ℕ) → list_all full rs ≡ true → length r ≡ 25
     → over (25 * length rs) r (image rs size) ≡ image (rs ++ r ∷ []) size
-image-push rs r size all long =
+image_push rs r size all long =
     let j : List ℕ = flat_map (λ x. x) rs in
     let z : ℕ = size - 25 * length rs in
     let at = length_joined rs all in

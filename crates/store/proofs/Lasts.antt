@@ -5,9 +5,9 @@ use Rattle.std.specs.Option.{option_or, option_map}
 use Rattle.std.proofs.lemmas.List.FromFn.{length-map-range_with_len, get_or-map-range_with_len}
 use Rattle.std.proofs.lemmas.List.{map-append, drop_at, drop-drop, get_or-set_same, get_or-set_other}
 use Rattle.std.proofs.lemmas.List.Sums.{sum_by-set, sum_by-cons, count_by-le-length}
-use Rattle.std.proofs.lemmas.Bool.{cases_Bool, cases_eq, eqb-true, ltb-true, eq-eqb, ne_eqb, cond_true, cond_false, and_parts, and_from}
+use Rattle.std.proofs.lemmas.Bool.{cases_Bool, cases_eq, eqb-true, ltb-true, eq-eqb, ne_eqb, cond-true, cond-false, and_parts, and_from}
 use Rattle.store.specs.Log.{last_by, last_place, kept, item_of, record_at}
-use Rattle.store.proofs.Made.{set-made}
+use Rattle.store.proofs.Made.{set_made}
 
 or_none : {X : Type 0} (o : Option X) → option_or o None ≡ o
 or_none None = refl
@@ -47,8 +47,8 @@ last_by_within f key a (suc n) q e = go (last_by f key (range_with_len (a + 1) n
     go (Some x) ih h = let r = ih h in (omega arith, omega arith)
     go None ih h =
         ⊎_elim
-        (λ t. let same : a ≡ q = some_is (sym (cond_true _ _ _ t) ∙ h) in (omega arith, omega arith))
-        (λ t. absurd (none_is (sym (cond_false _ _ _ t) ∙ h)))
+        (λ t. let same : a ≡ q = some_is (sym (cond-true _ _ _ t) ∙ h) in (omega arith, omega arith))
+        (λ t. absurd (none_is (sym (cond-false _ _ _ t) ∙ h)))
         (cases_Bool (eqb (f a) key))
       where
         some_is : {x y : ℕ} → ◌≡◌ {A = Option ℕ} (Some x) (Some y) → x ≡ y
@@ -57,11 +57,11 @@ last_by_within f key a (suc n) q e = go (last_by f key (range_with_len (a + 1) n
         none_is : {y : ℕ} → ◌≡◌ {A = Option ℕ} None (Some y) → ⊥
         none_is e' = let z : ◌≡◌ {A = ℕ} 0 1 = cc in omega arith
 
-pub lastBy-same :
+pub last_by_same :
     (f g : ℕ → ℕ) (key a n : ℕ) → ((k : ℕ) → k < a + n → f k ≡ g k) → last_by f key (range_with_len a n) ≡ last_by g key (range_with_len a n)
-lastBy-same f g key a zero same = refl
-lastBy-same f g key a (suc n) same =
-    ap (λ o. option_or o (cond (eqb (f a) key) (Some a) None)) (lastBy-same f g key (a + 1) n (λ k below. same k (omega arith)))
+last_by_same f g key a zero same = refl
+last_by_same f g key a (suc n) same =
+    ap (λ o. option_or o (cond (eqb (f a) key) (Some a) None)) (last_by_same f g key (a + 1) n (λ k below. same k (omega arith)))
     ∙ ap (λ x. option_or (last_by g key (range_with_len (a + 1) n)) (cond (eqb x key) (Some a) None)) (same a (omega arith))
 
 -- compaction keeps the last record of each item
@@ -70,14 +70,14 @@ last_by_kept key [] = refl
 last_by_kept key (r ∷ rs) =
     ⊎_elim
     (λ later.
-    ap (last_by item_of key) (cond_true _ (kept rs) (r ∷ kept rs) later)
+    ap (last_by item_of key) (cond-true _ (kept rs) (r ∷ kept rs) later)
     ∙ last_by_kept key rs
     ∙ sym (⊎_elim
     (λ same. or_some (last_by item_of key rs) _ (ap (λ k. option_is_some (last_by item_of k rs)) (sym (eqb-true (item_of r) key same)) ∙ later))
-    (λ other. ap (option_or (last_by item_of key rs)) (cond_false _ (Some r) None other) ∙ or_none (last_by item_of key rs))
+    (λ other. ap (option_or (last_by item_of key rs)) (cond-false _ (Some r) None other) ∙ or_none (last_by item_of key rs))
     (cases_Bool (eqb (item_of r) key))))
     (λ last.
-    ap (last_by item_of key) (cond_false _ (kept rs) (r ∷ kept rs) last)
+    ap (last_by item_of key) (cond-false _ (kept rs) (r ∷ kept rs) last)
     ∙ ap (λ o. option_or o (cond (eqb (item_of r) key) (Some r) None)) (last_by_kept key rs))
     (cases_Bool (option_is_some (last_by item_of (item_of r) rs)))
 
@@ -86,8 +86,8 @@ all_kept q [] all = refl
 all_kept q (r ∷ rs) all =
     let parts = and_parts (q r) (list_all q rs) all in
     ⊎_elim
-    (λ later. ap (list_all q) (cond_true _ (kept rs) (r ∷ kept rs) later) ∙ all_kept q rs parts.1)
-    (λ last. ap (list_all q) (cond_false _ (kept rs) (r ∷ kept rs) last) ∙ and_from (q r) (list_all q (kept rs)) parts.0 (all_kept q rs parts.1))
+    (λ later. ap (list_all q) (cond-true _ (kept rs) (r ∷ kept rs) later) ∙ all_kept q rs parts.1)
+    (λ last. ap (list_all q) (cond-false _ (kept rs) (r ∷ kept rs) last) ∙ and_from (q r) (list_all q (kept rs)) parts.0 (all_kept q rs parts.1))
     (cases_Bool (option_is_some (last_by item_of (item_of r) rs)))
 
 -- it keeps one record for each item that has one, so at most as many as there are items
@@ -111,9 +111,9 @@ one_more :
 one_more count r rs below =
     let long = length-map-range_with_len (has rs) 0 count in
     let marked : marks count (r ∷ rs) ≡ set (marks count rs) (item_of r) true =
-    set-made (has rs) (has (r ∷ rs)) count (item_of r) true
-    (λ _. ap (λ o. option_is_some (option_or (last_by item_of (item_of r) rs) o)) (cond_true _ (Some r) None (eq-eqb (item_of r) (item_of r) refl)) ∙ or_has (last_by item_of (item_of r) rs) r)
-    (λ j _ apart. ap (λ o. option_is_some (option_or (last_by item_of j rs) o)) (cond_false _ (Some r) None (ne_eqb (item_of r) j (λ e. apart (sym e)))) ∙ ap option_is_some (or_none (last_by item_of j rs))) in
+    set_made (has rs) (has (r ∷ rs)) count (item_of r) true
+    (λ _. ap (λ o. option_is_some (option_or (last_by item_of (item_of r) rs) o)) (cond-true _ (Some r) None (eq-eqb (item_of r) (item_of r) refl)) ∙ or_has (last_by item_of (item_of r) rs) r)
+    (λ j _ apart. ap (λ o. option_is_some (option_or (last_by item_of j rs) o)) (cond-false _ (Some r) None (ne_eqb (item_of r) j (λ e. apart (sym e)))) ∙ ap option_is_some (or_none (last_by item_of j rs))) in
     let bit : get_or (marks count rs) (item_of r) false ≡ has rs (item_of r) = get_or-map-range_with_len (has rs) 0 count (item_of r) (item_of r) false below (omega arith) in
     ap (λ m. count_by (λ b. b) m + cond (has rs (item_of r)) 1 0) marked
     ∙ ap (λ b. count_by (λ b. b) (set (marks count rs) (item_of r) true) + cond b 1 0) (sym bit)
@@ -126,8 +126,8 @@ counted count (r ∷ rs) all =
     let ih = counted count rs parts.1 in
     let more = one_more count r rs (ltb-true (item_of r) count parts.0) in
     ⊎_elim
-    (λ later. ap length (cond_true _ (kept rs) (r ∷ kept rs) later) ∙ omega (arith, ih, more, cond_true {A = ℕ} (has rs (item_of r)) 1 0 later))
-    (λ last. ap length (cond_false _ (kept rs) (r ∷ kept rs) last) ∙ omega (arith, ih, more, cond_false {A = ℕ} (has rs (item_of r)) 1 0 last))
+    (λ later. ap length (cond-true _ (kept rs) (r ∷ kept rs) later) ∙ omega (arith, ih, more, cond-true {A = ℕ} (has rs (item_of r)) 1 0 later))
+    (λ last. ap length (cond-false _ (kept rs) (r ∷ kept rs) last) ∙ omega (arith, ih, more, cond-false {A = ℕ} (has rs (item_of r)) 1 0 last))
     (cases_Bool (has rs (item_of r)))
 
 pub length_kept : (count : ℕ) (rs : List (List ℕ)) → list_all (λ r. ltb (item_of r) count) rs ≡ true → length (kept rs) ≤ count
@@ -146,10 +146,10 @@ or_cond true x o = refl
 or_cond false x o = refl
 
 -- one record more
-pub lastPlace-more :
+pub last_place_more :
     (buffer : List ℕ) (n item : ℕ)
     → last_place buffer (n + 1) item ≡ cond (eqb (item_of (record_at buffer n)) item) (Some n) (last_place buffer n item)
-lastPlace-more buffer n item =
+last_place_more buffer n item =
     let item_at : ℕ → ℕ = λ place. item_of (record_at buffer place) in
     ap (last_by item_at item) (counting_split 0 n 1 ∙ ap (λ k. range_with_len 0 n ++ (k ∷ [])) (zero-add n))
     ∙ last_by_append item_at item (range_with_len 0 n) (n ∷ [])
@@ -158,11 +158,11 @@ lastPlace-more buffer n item =
 is_some : {X : Type 0} {x y : X} → ◌≡◌ {A = Option X} (Some x) (Some y) → x ≡ y
 is_some e = cc
 
-none-later :
+none_later :
     (o front all : Option ℕ) (place : ℕ) → ((q : ℕ) → o ≡ Some q → place < q)
     → all ≡ option_or (option_or o (Some place)) front → all ≡ Some place → option_is_some o ≡ false
-none-later None front all place above e is = refl
-none-later (Some q) front all place above e is =
+none_later None front all place above e is = refl
+none_later (Some q) front all place above e is =
     let same : q ≡ place = is_some (sym e ∙ is) in let h = above q refl in absurd (omega arith)
 
 one_later :
@@ -197,18 +197,18 @@ turn f n place below =
     let item_at : ℕ → ℕ = λ k. item_of (f k) in
     let found : last_by item_at key (range_with_len 0 n) ≡ option_or (option_or (last_by item_at key tail) (Some place)) (last_by item_at key front) =
     ap (last_by item_at key) whole ∙ last_by_append item_at key front (place ∷ tail)
-    ∙ ap (λ p. option_or (option_or (last_by item_at key tail) p) (last_by item_at key front)) (cond_true _ (Some place) None (eq-eqb key key refl)) in
+    ∙ ap (λ p. option_or (option_or (last_by item_at key tail) p) (last_by item_at key front)) (cond-true _ (Some place) None (eq-eqb key key refl)) in
     let flag : option_is_some (last_by item_of key (map f tail)) ≡ option_is_some (last_by item_at key tail) =
     ap option_is_some (last_by_map f item_of key tail) ∙ some_mapped f (last_by item_at key tail) in
     record {
       split = here ∙ ap (λ l. f place ∷ l) (sym after);
       last = λ is.
           ap kept here
-          ∙ cond_false _ _ _ (flag ∙ none-later (last_by item_at key tail) (last_by item_at key front) (last_by item_at key (range_with_len 0 n)) place (λ q e. omega (arith, (last_by_within item_at key (place + 1) rest q e).0)) found is)
+          ∙ cond-false _ _ _ (flag ∙ none_later (last_by item_at key tail) (last_by item_at key front) (last_by item_at key (range_with_len 0 n)) place (λ q e. omega (arith, (last_by_within item_at key (place + 1) rest q e).0)) found is)
           ∙ ap (λ l. f place ∷ kept l) (sym after);
       later = λ isnt.
           ap kept here
-          ∙ cond_true _ _ _ (flag ∙ one_later (last_by item_at key tail) (last_by item_at key front) (last_by item_at key (range_with_len 0 n)) place found isnt)
+          ∙ cond-true _ _ _ (flag ∙ one_later (last_by item_at key tail) (last_by item_at key front) (last_by item_at key (range_with_len 0 n)) place found isnt)
           ∙ ap kept (sym after);
     }
 
@@ -222,9 +222,9 @@ noted latest item n i old new within was is =
     (λ same.
     ap (λ k. get_or (set latest item (Some n)) k None) same
     ∙ get_or-set_same latest item (Some n) None within
-    ∙ sym (is ∙ cond_true _ (Some n) old (eq-eqb item i (sym same))))
+    ∙ sym (is ∙ cond-true _ (Some n) old (eq-eqb item i (sym same))))
     (λ apart.
     get_or-set_other latest item i (Some n) None apart
     ∙ was
-    ∙ sym (is ∙ cond_false _ (Some n) old (ne_eqb item i (λ e. apart (sym e)))))
+    ∙ sym (is ∙ cond-false _ (Some n) old (ne_eqb item i (λ e. apart (sym e)))))
     (cases_eq i item)

@@ -5,7 +5,7 @@ use Rattle.std.specs.Option.{option_map, option_or}
 use Rattle.std.proofs.lemmas.List.FromFn.{length-map-range_with_len}
 use Rattle.std.proofs.lemmas.List.{take_at, drop_at, get_or-replicate, length-append, length-replicate, length_push}
 use Rattle.std.proofs.lemmas.List.Sums.{prefix_len-le-length}
-use Rattle.std.proofs.lemmas.Bool.{true≢false, cond_true, cond_false, and_parts, and_from, or_parts, or_from, not_from_true, not-true, eqb-true, eqb-false, eq-eqb, ne_eqb, ltb-true, ltb-false, lt-ltb, le-ltb}
+use Rattle.std.proofs.lemmas.Bool.{true≢false, cond-true, cond-false, and_parts, and_from, or_parts, or_from, not_from_true, not-true, eqb-true, eqb-false, eq-eqb, ne_eqb, ltb-true, ltb-false, lt-ltb, le-ltb}
 use Rattle.store.specs.declared.Version.{Version}
 use Rattle.store.specs.declared.faults.Fault.{Fault}
 use Rattle.store.specs.declared.faults.Fault.TheVariants.{Count, Length, Record, Trailing}
@@ -14,12 +14,12 @@ use Rattle.store.specs.Faults.{first_of}
 use Rattle.store.specs.Log.{checked, used, records, record_at, sound, headed, item_of, version_of, version_from, zero_version, record_of, last_by, last_place, log, kept, image, compacted, appended}
 use Rattle.store.specs.Packed.{packed, unpacked}
 use Rattle.store.proofs.Ends.{tag_is}
-use Rattle.store.proofs.Images.{full, length_image, length_joined, used_image, records_image, image-push, image_is}
-use Rattle.store.proofs.Lasts.{last_by_append, last_by_map, last_by_kept, all_kept, length_kept, or_cond, lastPlace-more, lastBy-same, last_by_within, noted}
-use Rattle.store.proofs.Made.{nth_made, set-made, map_same}
+use Rattle.store.proofs.Images.{full, length_image, length_joined, used_image, records_image, image_push, image_is}
+use Rattle.store.proofs.Lasts.{last_by_append, last_by_map, last_by_kept, all_kept, length_kept, or_cond, last_place_more, last_by_same, last_by_within, noted}
+use Rattle.store.proofs.Made.{nth_made, set_made, map_same}
 use Rattle.store.proofs.Numbers.{length_bytes_of, number_in_bytes_of}
 use Rattle.store.proofs.Passes.{all_at, all_from, all_made, all_made_at, all_push}
-use Rattle.store.proofs.Places.{length_part, length_over, part-over-same, part-over-other}
+use Rattle.store.proofs.Places.{length_part, length_over, part_over_same, part_over_other}
 use Rattle.store.proofs.RoundTrip.{Fits, unpacked_packed, length_packed_with}
 
 -- what a buffer that is not refused shows
@@ -44,14 +44,14 @@ no_record b count = not (list_all (sound count) (records b))
 abbrev no_zeroes : List ℕ → Bool
 no_zeroes b = not (list_all (λ x. eqb x 0) (drop (25 * used b) b))
 
-none-holds :
+none_holds :
     (t u v w : Bool) → is_ok (first_of ((t, Count) ∷ (u, Length) ∷ (v, Record) ∷ (w, Trailing) ∷ [])) ≡ true
     → (t ≡ false) × (u ≡ false) × (v ≡ false) × (w ≡ false)
-none-holds false false false false ok = (refl, refl, refl, refl)
-none-holds true u v w ok = absurd (true≢false (sym ok))
-none-holds false true v w ok = absurd (true≢false (sym ok))
-none-holds false false true w ok = absurd (true≢false (sym ok))
-none-holds false false false true ok = absurd (true≢false (sym ok))
+none_holds false false false false ok = (refl, refl, refl, refl)
+none_holds true u v w ok = absurd (true≢false (sym ok))
+none_holds false true v w ok = absurd (true≢false (sym ok))
+none_holds false false true w ok = absurd (true≢false (sym ok))
+none_holds false false false true ok = absurd (true≢false (sym ok))
 
 passes :
     (t u v w : Bool) → t ≡ false → u ≡ false → v ≡ false → w ≡ false
@@ -64,7 +64,7 @@ not_false false e = sym e
 
 pub good_from : (b : List ℕ) (count : ℕ) → is_ok (checked b count) ≡ true → Good b count
 good_from b count ok =
-    let tests = none-holds (no_count count) (no_length b count) (no_record b count) (no_zeroes b) ok in
+    let tests = none_holds (no_count count) (no_length b count) (no_record b count) (no_zeroes b) ok in
     let counts = or_parts (eqb count 0) (ltb 256 count) tests.0 in
     let lengths = or_parts (ltb 65536 (length b)) (ltb (length b) (25 * (count + 1))) tests.1 in
     let some : count ≡ 0 → ⊥ = eqb-false count 0 counts.0 in
@@ -116,12 +116,12 @@ pub is_image : (b : List ℕ) (count : ℕ) → Good b count → b ≡ image (re
 is_image b count g = image_is b (used b) g.zeroes
 
 -- records in a buffer that is long enough, and then zeroes
-pub image-good :
+pub image_good :
     (rs : List (List ℕ)) (size count : ℕ)
     → 0 < count → count ≤ 256 → size ≤ 65536 → 25 * (count + 1) ≤ size
     → list_all (sound count) rs ≡ true → list_all full rs ≡ true → 25 * length rs ≤ size
     → Good (image rs size) count
-image-good rs size count some few short room sounds fulls fits =
+image_good rs size count some few short room sounds fulls fits =
     let long = length_image rs size fulls fits in
     let n = used_image rs size fulls fits in
     let rest : drop (25 * used (image rs size)) (image rs size) ≡ replicate (size - 25 * length rs) 0 =
@@ -173,7 +173,7 @@ compaction b count g =
     let n = used_image rs (length b) whole (omega arith) in
     let back : records (compacted b) ≡ rs = records_image rs (length b) whole (omega arith) in
     record {
-      good = image-good rs (length b) count g.some g.few g.short g.room sounds whole (omega arith);
+      good = image_good rs (length b) count g.some g.few g.short g.room sounds whole (omega arith);
       fewer = n;
       frees = omega arith;
       long = length_image rs (length b) whole (omega arith);
@@ -215,7 +215,7 @@ appending b count item v g below room small =
     let is : appended item v b ≡ image rs (length b) =
     ap (λ l. over (25 * used b) r l) (is_image b count g)
     ∙ ap (λ k. over (25 * k) r (image (records b) (length b))) (sym n)
-    ∙ image-push (records b) r (length b) (fulls b count g) refl in
+    ∙ image_push (records b) r (length b) (fulls b count g) refl in
     let back : records (appended item v b) ≡ rs = ap records is ∙ records_image rs (length b) whole (omega arith) in
     let count-is : used (appended item v b) ≡ used b + 1 = ap used is ∙ used_image rs (length b) whole (omega arith) ∙ pushed in
     let last : (i : ℕ) → last_by item_of i rs ≡ cond (eqb item i) (Some r) (last_by item_of i (records b)) =
@@ -223,20 +223,20 @@ appending b count item v g below room small =
     let meaning : (i : ℕ) → version_from (appended item v b) (last_place (appended item v b) (used (appended item v b)) i) ≡ from_last (cond (eqb item i) (Some r) (last_by item_of i (records b))) =
     λ i. version_is (appended item v b) i ∙ ap (λ l. meant l i) back ∙ ap from_last (last i) in
     record {
-      good = subst (λ l. Good l count) (sym is) (image-good rs (length b) count g.some g.few g.short g.room sounds whole (omega arith));
+      good = subst (λ l. Good l count) (sym is) (image_good rs (length b) count g.some g.few g.short g.room sounds whole (omega arith));
       more = count-is;
       long = ap length is ∙ length_image rs (length b) whole (omega arith);
       after =
-          set-made (λ i. version_from b (last_place b (used b) i)) (λ i. version_from (appended item v b) (last_place (appended item v b) (used (appended item v b)) i)) count item v
-          (λ _. meaning item ∙ ap from_last (cond_true _ (Some r) (last_by item_of item (records b)) (eq-eqb item item refl)) ∙ record_version item v small)
-          (λ i _ apart. meaning i ∙ ap from_last (cond_false _ (Some r) (last_by item_of i (records b)) (ne_eqb item i (λ e. apart (sym e)))) ∙ sym (version_is b i));
+          set_made (λ i. version_from b (last_place b (used b) i)) (λ i. version_from (appended item v b) (last_place (appended item v b) (used (appended item v b)) i)) count item v
+          (λ _. meaning item ∙ ap from_last (cond-true _ (Some r) (last_by item_of item (records b)) (eq-eqb item item refl)) ∙ record_version item v small)
+          (λ i _ apart. meaning i ∙ ap from_last (cond-false _ (Some r) (last_by item_of i (records b)) (ne_eqb item i (λ e. apart (sym e)))) ∙ sym (version_is b i));
       place = λ i.
-          lastPlace-more (appended item v b) (used b) i
-          ∙ ap (λ l. cond (eqb (item_of l) i) (Some (used b)) (last_place (appended item v b) (used b) i)) (part-over-same (25 * used b) r b (omega arith))
+          last_place_more (appended item v b) (used b) i
+          ∙ ap (λ l. cond (eqb (item_of l) i) (Some (used b)) (last_place (appended item v b) (used b) i)) (part_over_same (25 * used b) r b (omega arith))
           ∙ ap (λ k. cond (eqb k i) (Some (used b)) (last_place (appended item v b) (used b) i)) item-is
           ∙ ap (cond (eqb item i) (Some (used b)))
-          (lastBy-same (λ k. item_of (record_at (appended item v b) k)) (λ k. item_of (record_at b k)) i 0 (used b)
-          (λ k h. ap item_of (part-over-other (25 * k) 25 (25 * used b) r b (omega arith) (inl (omega arith)))));
+          (last_by_same (λ k. item_of (record_at (appended item v b) k)) (λ k. item_of (record_at b k)) i 0 (used b)
+          (λ k h. ap item_of (part_over_other (25 * k) 25 (25 * used b) r b (omega arith) (inl (omega arith)))));
     }
 
 -- the item of each record is one that there is
@@ -245,10 +245,10 @@ item_below b count k g below =
     ltb-true _ count (sound_item count (record_at b k) (all_made_at (sound count) (record_at b) (used b) k g.sounds below))
 
 -- an item's version, by the index
-pub log-get :
+pub log_get :
     (b : List ℕ) (count item n : ℕ) (o : Option ℕ) → item < count → n ≡ used b → o ≡ last_place b n item
     → slice_get (log b count) item ≡ Some (version_from b o)
-log-get b count item n o below is at =
+log_get b count item n o below is at =
     nth_made (λ i. version_from b (last_place b (used b) i)) count item below
     ∙ ap (λ p. Some (version_from b p)) (ap (λ k. last_place b k item) (sym is) ∙ sym at)
 

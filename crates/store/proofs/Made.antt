@@ -11,12 +11,12 @@ nth_made f n i below =
     let long = length-map-range_with_len f 0 n in
     slice_get-get_or (map f (range_with_len 0 n)) i (f i) (omega arith) ∙ ap Some (get_or-map-range_with_len f 0 n i i (f i) below (omega arith))
 
-pub set-made :
+pub set_made :
     {X : Type 0} (f g : ℕ → X) (n i : ℕ) (x : X)
     → (i < n → g i ≡ x)
     → ((j : ℕ) → j < n → (j ≡ i → ⊥) → g j ≡ f j)
     → map g (range_with_len 0 n) ≡ set (map f (range_with_len 0 n)) i x
-set-made f g n i x here other =
+set_made f g n i x here other =
     let lf = length-map-range_with_len f 0 n in
     let lg = length-map-range_with_len g 0 n in
     same_lists _ _ (lg ∙ sym (length-set _ i x ∙ lf))

@@ -34,14 +34,14 @@ nth_pair_second xs ys i past below = nth_take 256 i (xs ++ ys) below ∙ nth_rig
 pub nth_pair_past : {X : Type 0} (xs ys : List X) (i : ℕ) → 256 ≤ i → slice_get (pair xs ys) i ≡ None
 nth_pair_past xs ys i past = slice_get_past (pair xs ys) i (omega (arith, length_pair xs ys))
 
-pub set-pair-first :
+pub set_pair_first :
     {X : Type 0} (xs ys : List X) (i : ℕ) (x : X) → length xs ≤ 256 → i < length xs → pair (set xs i x) ys ≡ set (pair xs ys) i x
-set-pair-first xs ys i x few below =
+set_pair_first xs ys i x few below =
     ap (take 256) (sym (set-append_left xs ys i x below)) ∙ take-set-lt 256 (xs ++ ys) i x (omega arith)
 
-pub set-pair-second :
+pub set_pair_second :
     {X : Type 0} (xs ys : List X) (i : ℕ) (x : X) → length xs ≤ i → i < 256 → pair xs (set ys (i - length xs) x) ≡ set (pair xs ys) i x
-set-pair-second xs ys i x past below =
+set_pair_second xs ys i x past below =
     ap (take 256) (sym (set-append_right xs ys (length xs) i x refl past)) ∙ take-set-lt 256 (xs ++ ys) i x below
 
 pub set_pair_past : {X : Type 0} (xs ys : List X) (i : ℕ) (x : X) → 256 ≤ i → set (pair xs ys) i x ≡ pair xs ys

@@ -2,7 +2,7 @@
 use Rattle.std.proofs.Common.{◌≡◌, ℕ, zero, suc, ◌+◌, ◌<◌, ◌≤◌, Bool, true, false, cond, ◌&&◌, List, [], ◌∷◌, ◌++◌, map, length, get_or, sym, refl, ap, ◌∙◌, subst, add-zero, add-suc, arith}
 use Rattle.std.specs.List.{range_with_len, list_all, prefix_len}
 use Rattle.std.proofs.lemmas.List.FromFn.{length-map-range_with_len, get_or-map-range_with_len}
-use Rattle.std.proofs.lemmas.Bool.{and_parts, and_from, and_left, and_right, cond_true, cond_false}
+use Rattle.std.proofs.lemmas.Bool.{and_parts, and_from, and_left, and_right, cond-true, cond-false}
 
 pub all_at : {X : Type 0} (q : X → Bool) (xs : List X) (k : ℕ) (d : X) → list_all q xs ≡ true → k < length xs → q (get_or xs k d) ≡ true
 all_at q [] k d all below = absurd (omega arith)
@@ -43,28 +43,28 @@ all_made_not q f n k below fails =
     all_not q (map f (range_with_len 0 n)) k (f k) (omega arith) (ap q (get_or-map-range_with_len f 0 n k k (f k) below (omega arith)) ∙ fails)
 
 -- the longest front that passes
-leading-from :
+leading_from :
     {X : Type 0} (p : X → Bool) (f : ℕ → X) (a n m : ℕ)
     → m ≤ n
     → ((j : ℕ) → j < m → p (f (a + j)) ≡ true)
     → (m < n → p (f (a + m)) ≡ false)
     → prefix_len p (map f (range_with_len a n)) ≡ m
-leading-from p f a zero m within passes stops = omega arith
-leading-from p f a (suc n) zero within passes stops = cond_false _ _ _ (ap (λ k. p (f k)) (sym (add-zero a)) ∙ stops (omega arith))
-leading-from p f a (suc n) (suc m) within passes stops =
+leading_from p f a zero m within passes stops = omega arith
+leading_from p f a (suc n) zero within passes stops = cond-false _ _ _ (ap (λ k. p (f k)) (sym (add-zero a)) ∙ stops (omega arith))
+leading_from p f a (suc n) (suc m) within passes stops =
     let shift : (j : ℕ) → a + 1 + j ≡ a + suc j = λ j. omega arith in
     let rest : prefix_len p (map f (range_with_len (a + 1) n)) ≡ m =
-    leading-from p f (a + 1) n m (omega arith)
+    leading_from p f (a + 1) n m (omega arith)
     (λ j below. ap (λ k. p (f k)) (shift j) ∙ passes (suc j) (omega arith))
     (λ below. ap (λ k. p (f k)) (shift m) ∙ stops (omega arith)) in
-    cond_true _ _ _ (ap (λ k. p (f k)) (sym (add-zero a)) ∙ passes 0 (omega arith)) ∙ omega (arith, rest)
+    cond-true _ _ _ (ap (λ k. p (f k)) (sym (add-zero a)) ∙ passes 0 (omega arith)) ∙ omega (arith, rest)
 
-pub leading-made :
+pub leading_made :
     {X : Type 0} (p : X → Bool) (f : ℕ → X) (n m : ℕ)
     → m ≤ n
     → ((j : ℕ) → j < m → p (f j) ≡ true)
     → (m < n → p (f m) ≡ false)
     → prefix_len p (map f (range_with_len 0 n)) ≡ m
-leading-made p f n m within passes stops =
+leading_made p f n m within passes stops =
     let here : (j : ℕ) → 0 + j ≡ j = λ j. omega arith in
-    leading-from p f 0 n m within (λ j below. ap (λ k. p (f k)) (here j) ∙ passes j below) (λ below. ap (λ k. p (f k)) (here m) ∙ stops below)
+    leading_from p f 0 n m within (λ j below. ap (λ k. p (f k)) (here j) ∙ passes j below) (λ below. ap (λ k. p (f k)) (here m) ∙ stops below)

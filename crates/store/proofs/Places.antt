@@ -10,39 +10,39 @@ pub length_part : (at size : ℕ) (buffer : List ℕ) → at + size ≤ length b
 length_part at size buffer fits = simp (length-take, length-drop) (omega arith)
 
 -- what is written may be known by another name
-pub over-new :
+pub over_new :
     (at : ℕ) (buffer : List ℕ) {new same after : List ℕ}
     → after ≡ over at new buffer → new ≡ same → after ≡ over at same buffer
-over-new at buffer is e = is ∙ ap (λ l. over at l buffer) e
+over_new at buffer is e = is ∙ ap (λ l. over at l buffer) e
 
 -- the part that was written
-pub part-over-same :
+pub part_over_same :
     (at : ℕ) (new buffer : List ℕ)
     → at + length new ≤ length buffer → part at (length new) (over at new buffer) ≡ new
-part-over-same at new buffer fits =
+part_over_same at new buffer fits =
     same_lists _ _ (simp (length-take, length-drop, length-append) (omega arith)) (λ k d h. grind (arith, places))
 
 -- a part that was not
-pub part-over-other :
+pub part_over_other :
     (at size from : ℕ) (new buffer : List ℕ)
     → from + length new ≤ length buffer
     → (at + size ≤ from) ⊎ (from + length new ≤ at)
     → part at size (over from new buffer) ≡ part at size buffer
-part-over-other at size from new buffer fits (inl before) =
+part_over_other at size from new buffer fits (inl before) =
     same_lists _ _ (simp (length-take, length-drop, length-append) (omega arith)) (λ k d h. grind (arith, places))
-part-over-other at size from new buffer fits (inr behind) =
+part_over_other at size from new buffer fits (inr behind) =
     same_lists _ _ (simp (length-take, length-drop, length-append) (omega arith)) (λ k d h. grind (arith, places))
 
 -- what stands before and after the bytes that were written
-pub take-over :
+pub take_over :
     (at n : ℕ) (new buffer : List ℕ) → at ≤ length buffer → n ≡ at + length new → take n (over at new buffer) ≡ take at buffer ++ new
-take-over at n new buffer within is =
+take_over at n new buffer within is =
     ap (take n) (sym (append_assoc (take at buffer) new (drop (at + length new) buffer)))
     ∙ take_at (take at buffer ++ new) (drop (at + length new) buffer) n (length-append (take at buffer) new ∙ omega (arith, length-take-le at buffer within))
 
-pub drop-over :
+pub drop_over :
     (at n : ℕ) (new buffer : List ℕ) → at ≤ length buffer → at + length new ≤ n → drop n (over at new buffer) ≡ drop n buffer
-drop-over at n new buffer within past =
+drop_over at n new buffer within past =
     let seam : ℕ = at + length new in
     let rest : drop seam (over at new buffer) ≡ drop seam buffer =
     ap (drop seam) (sym (append_assoc (take at buffer) new (drop seam buffer)))

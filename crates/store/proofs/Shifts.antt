@@ -7,11 +7,11 @@ use Rattle.store.specs.Bytes.{part, over}
 use Rattle.store.proofs.Ends.{get_d_part}
 use Rattle.store.proofs.Places.{length_part}
 
-pub shift-more :
+pub shift_more :
     (old bytes : List ℕ) (from to size i : ℕ) → to ≤ from → from + size ≤ length old → i < size
     → bytes ≡ paste old to (part from size old) i
     → set bytes (to + i) (get_or bytes (from + i) 0) ≡ paste old to (part from size old) (i + 1)
-shift-more old bytes from to size i down fits below is =
+shift_more old bytes from to size i down fits below is =
     let moved : List ℕ = part from size old in
     let long = length_part from size old fits in
     let rest = drop-paste old to moved i (omega arith) (omega arith) in
@@ -28,18 +28,18 @@ shift-more old bytes from to size i down fits below is =
     ∙ ap (λ l. set l (to + i) (get_or moved i 0)) is
     ∙ paste_more old to moved i 0 (omega arith) (omega arith)
 
-pub shift-all :
+pub shift_all :
     (old : List ℕ) (from to size i : ℕ) → from + size ≤ length old → i ≡ size
     → paste old to (part from size old) i ≡ over to (part from size old) old
-shift-all old from to size i fits done =
+shift_all old from to size i fits done =
     let long = length_part from size old fits in
     paste_all old to (part from size old) i (omega arith)
     ∙ ap (λ n. take to old ++ (part from size old ++ drop (to + n) old)) (omega arith)
 
-pub clear-all :
+pub clear_all :
     (old : List ℕ) (from size i : ℕ) → from + size ≡ length old → i ≡ size
     → paste old from (replicate i 0) i ≡ take from old ++ replicate (length old - from) 0
-clear-all old from size i fits done =
+clear_all old from size i fits done =
     paste_all old from (replicate i 0) i (sym (length-replicate i 0))
     ∙ ap (λ l. take from old ++ (replicate i 0 ++ l)) (drop_all (from + i) old (omega arith))
     ∙ ap (λ l. take from old ++ l) (append-nil (replicate i 0))

@@ -5,15 +5,15 @@ use Rattle.store.specs.Bytes.{number_in}
 use Rattle.frame.proofs.Bytes.{byte_more, room_for_byte}
 use Rattle.frame.proofs.numbers.read_number.Goals as goal
 
-pub overflow-mul-number : goal.overflow-mul-number
-overflow-mul-number c = omega (arith, room_for_byte c.loop-byte.number 0 c.loop-byte.byte-index 8 c.loop-byte.invariant.1 (omega arith) (omega (arith, c.requires)))
+pub overflow_mul-number : goal.overflow_mul-number
+overflow_mul-number c = omega (arith, room_for_byte c.loop-byte.number 0 c.loop-byte.byte-index 8 c.loop-byte.invariant.1 (omega arith) (omega (arith, c.requires)))
 
 -- the byte that is added
 byte : (c : goal.After-from) → c.from.result < 256
-byte c = omega (arith, c.from.ensures, c.type-inv.bytes c.loop-byte.byte-index)
+byte c = omega (arith, c.from.ensures, c.type_inv.bytes c.loop-byte.byte-index)
 
-pub overflow-add-number : goal.overflow-add-number
-overflow-add-number c = omega (arith, room_for_byte c.loop-byte.number c.from.result c.loop-byte.byte-index 8 c.loop-byte.invariant.1 (byte c) (omega (arith, c.requires)))
+pub overflow_add-number : goal.overflow_add-number
+overflow_add-number c = omega (arith, room_for_byte c.loop-byte.number c.from.result c.loop-byte.byte-index 8 c.loop-byte.invariant.1 (byte c) (omega (arith, c.requires)))
 
 pub loop-byte-preserved : goal.loop-byte-preserved
 loop-byte-preserved c =

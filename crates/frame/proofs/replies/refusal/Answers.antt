@@ -3,4 +3,4 @@ use Rattle.frame.proofs.replies.refusal.Goals as goal
 
 pub returns : goal.returns
 unfolding refusal_with
-returns c = c.first-with.ensures
+returns c = c.first_with.ensures

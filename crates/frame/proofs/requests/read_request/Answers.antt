@@ -7,5 +7,5 @@ use Rattle.frame.proofs.requests.read_request.Goals as goal
 
 pub returns : goal.returns
 returns c =
-    let reads : ◌≡◌ {A = Result Call Fault} (Ok c.in-ok-call.call) (read_request c.args.frame.now) = search rules in
-    record { reads = reads; back = written_read c.args.frame.now c.in-ok-call.call (λ i. omega (arith, c.type-inv.frame i)) (sym reads) }
+    let reads : ◌≡◌ {A = Result Call Fault} (Ok c.in_ok-call.call) (read_request c.args.frame.now) = search rules in
+    record { reads = reads; back = written_read c.args.frame.now c.in_ok-call.call (λ i. omega (arith, c.type_inv.frame i)) (sym reads) }

@@ -8,7 +8,7 @@ loop-item-init g c = record { made = λ z ms. ms; first = refl }
 pub loop-item-preserved : goal.loop-item-preserved
 loop-item-preserved g c =
     certifies_more g.S.Store.versions c.args.service.now c.loop-item.service c.args.tool c.args.items.now c.loop-item.item-index c.loop-item.invariant c.certify.new.self _ c.loop-item-test.true
-    c.in-default.ensures
+    c.in_default.ensures
 
 pub returns-in-Err : goal.returns-in-Err
 returns-in-Err g c =

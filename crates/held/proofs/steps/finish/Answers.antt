@@ -5,10 +5,10 @@ use Rattle.held.proofs.Made.{Stepped}
 use Rattle.held.proofs.Whole.{settled, not_settled}
 use Rattle.held.proofs.steps.finish.Goals as goal
 
-pub returns-in-err-call : goal.returns-in-err-call
-returns-in-err-call g c =
+pub returns-in_err-call : goal.returns-in_err-call
+returns-in_err-call g c =
     let p = err_from_is_err_and c.from-residual.result c.from-residual.ensures.1 in
-    let m = c.in-err-call.ensures in
+    let m = c.in_err-call.ensures in
     record {
       made = not_settled g.S.Store.versions c.args.service.now c.call.new.self c.args.call _ m;
       answer = rw (p.1, p.2) (ap (λ (q : Stepped). without q.0) (sym m.does));
@@ -16,8 +16,8 @@ returns-in-err-call g c =
 
 pub returns : goal.returns
 returns g c =
-    let m = c.in-ok-call.ensures in
+    let m = c.in_ok-call.ensures in
     record {
-      made = settled g.S.Store.versions c.args.service.now c.call.new.self c.settle-held.new.service c.args.call _ c.tool.result m c.tool.ensures c.settle-held.ensures;
+      made = settled g.S.Store.versions c.args.service.now c.call.new.self c.settle_held.new.service c.args.call _ c.tool.result m c.tool.ensures c.settle_held.ensures;
       answer = ap (λ (q : Stepped). without q.0) (sym m.does);
     }

@@ -12,9 +12,9 @@ same_version v w a b d =
     let of : ℕ → ℕ → ℕ → Version = λ x y z. record { value = x; twrite = y; tread = z } in
     ap (λ (n : ℕ). of n v.twrite v.tread) a ∙ (ap (λ (n : ℕ). of w.value n v.tread) b ∙ ap (λ (n : ℕ). of w.value w.twrite n) d)
 
-pub returns-in-default : goal.returns-in-default
-returns-in-default c = record {
-  value = λ vs f. sym (set_past vs c.args.item _ (past_end vs c.args.item (f ∙ c.in-default.is)));
+pub returns-in_default : goal.returns-in_default
+returns-in_default c = record {
+  value = λ vs f. sym (set_past vs c.args.item _ (past_end vs c.args.item (f ∙ c.in_default.is)));
   quiet = λ _ _ _. refl;
 }
 

@@ -4,14 +4,14 @@ use Rattle.service.specs.Views.{any_of}
 use Rattle.service.proofs.Lists.{any_here, any_later}
 use Rattle.service.proofs.views.any_of.Goals as goal
 
-pub returns-then-is-of : goal.returns-then-is-of
-returns-then-is-of g c =
-    sym (any_here (g.T-as-Owned.owned c.args.tool c.args.stamp) c.args.tokens.now c.loop-token.token-index c.token-item.result c.loop-token-test.true c.token-item.is (sym c.is-of.ensures ∙ c.if-is-of.true))
+pub returns-then-is_of : goal.returns-then-is_of
+returns-then-is_of g c =
+    sym (any_here (g.T-as-Owned.owned c.args.tool c.args.stamp) c.args.tokens.now c.loop-token.token-index c.token-item.result c.loop-token-test.true c.token-item.is (sym c.is_of.ensures ∙ c.if-is_of.true))
     ∙ c.loop-token.invariant
 
 pub loop-token-preserved : goal.loop-token-preserved
 loop-token-preserved g c =
-    sym (any_later (g.T-as-Owned.owned c.args.tool c.args.stamp) c.args.tokens.now c.loop-token.token-index c.token-item.result c.loop-token-test.true c.token-item.is (sym c.is-of.ensures ∙ c.if-is-of.false))
+    sym (any_later (g.T-as-Owned.owned c.args.tool c.args.stamp) c.args.tokens.now c.loop-token.token-index c.token-item.result c.loop-token-test.true c.token-item.is (sym c.is_of.ensures ∙ c.if-is_of.false))
     ∙ c.loop-token.invariant
 
 pub returns : goal.returns

@@ -1,7 +1,7 @@
 use Rattle.std.proofs.Common.{◌≡◌, ℕ, ◌+◌, ◌*◌, List, get_or, Some, None, sym, ap, ◌∙◌, arith}
 use Rattle.store.specs.Bytes.{part, over}
 use Rattle.store.specs.Log.{last_place, item_of, record_at}
-use Rattle.store.proofs.Compacts.{moved_is, pass-at, pass-drop, pass-keep, pass_all}
+use Rattle.store.proofs.Compacts.{moved_is, pass_at, pass_drop, pass_keep, pass_all}
 use Rattle.store.proofs.records.sift.Goals as goal
 use Rattle.store.proofs.records.sift.Goals.{then-names, else-names}
 
@@ -24,13 +24,13 @@ loop-place-preserved c =
     let end : ℕ = c.loop-place.end in
     elim c.if-names.branch [
       | then-names w ↦
-          pass-at old (over (25 * end) (part (25 * place) 25 bytes) bytes) c.if-names.area.bytes.now n (place + 1) (end + 1) c.if-names.end
-          (pass-keep old bytes n place end c.loop-place.invariant (omega arith) c.requires.fits (sym (indexed c) ∙ w.if-names.ensures))
+          pass_at old (over (25 * end) (part (25 * place) 25 bytes) bytes) c.if-names.area.bytes.now n (place + 1) (end + 1) c.if-names.end
+          (pass_keep old bytes n place end c.loop-place.invariant (omega arith) c.requires.fits (sym (indexed c) ∙ w.if-names.ensures))
           (ap (λ a. a.bytes.now) w.area-is ∙ w.shift.ensures)
           w.end-is
       | else-names w ↦
-          pass-at old bytes c.if-names.area.bytes.now n (place + 1) end c.if-names.end
-          (pass-drop old bytes n place end c.loop-place.invariant (omega arith) (λ is. w.if-names.ensures (indexed c ∙ is)))
+          pass_at old bytes c.if-names.area.bytes.now n (place + 1) end c.if-names.end
+          (pass_drop old bytes n place end c.loop-place.invariant (omega arith) (λ is. w.if-names.ensures (indexed c ∙ is)))
           (ap (λ a. a.bytes.now) w.area-is)
           w.end-is
     ]

@@ -17,12 +17,12 @@ returns c =
     let three : 3 ≤ length frame = omega (arith, some_width k) in
     let long : 3 + width k ≤ length frame = omega arith in
     let content : (content_of c.new.result).now ≡ part 3 (width k) frame =
-    c.new.ensures.content ∙ (c.split-at.ensures.front ∙ (ap (take c.width-width.result) rest ∙ ap (λ n. take n (drop 3 frame)) w)) in
-    let back : c.split-at.result.1.now ≡ drop (3 + width k) frame =
-    c.split-at.ensures.back ∙ (ap (drop c.width-width.result) rest ∙ (ap (λ n. drop n (drop 3 frame)) w ∙ drop-drop (width k) 3 frame)) in
-    let sized : number_in (part 1 2 frame) ≡ width k = length_bytes frame three ∙ (sym c.from-be-bytes.ensures ∙ (c.if-from-be-bytes-width.false ∙ w)) in
+    c.new.ensures.content ∙ (c.split_at.ensures.front ∙ (ap (take c.width-width.result) rest ∙ ap (λ n. take n (drop 3 frame)) w)) in
+    let back : c.split_at.result.1.now ≡ drop (3 + width k) frame =
+    c.split_at.ensures.back ∙ (ap (drop c.width-width.result) rest ∙ (ap (λ n. drop n (drop 3 frame)) w ∙ drop-drop (width k) 3 frame)) in
+    let sized : number_in (part 1 2 frame) ≡ width k = length_bytes frame three ∙ (sym c.from_be_bytes.ensures ∙ (c.if-from_be_bytes-width.false ∙ w)) in
     let is = found k frame long (c.if-tag.false ∙ c.tag.ensures) sized in
-    let ln = c.split-at.ensures.front-len in
+    let ln = c.split_at.ensures.front-len in
     record {
       kind = c.new.ensures.kind;
       content = content;

@@ -6,16 +6,16 @@ use Rattle.held.specs.Held.{is_abortable, only, or_back}
 use Rattle.held.proofs.Made.{held_off, single_through}
 use Rattle.held.proofs.transactions.Closed.abort.Goals as goal
 
-pub returns-then-not-is-abortable : goal.returns-then-not-is-abortable
-returns-then-not-is-abortable g c =
-    held_off g.S.Store.versions c.args.service.now (λ s. is_abortable s c.args.self.tool c.args.self.stamp) (Err (WrongState, c.args.self)) (only (Abort c.args.self.tool) (λ a. or_back c.args.self (without a))) (sym c.if-not-is-abortable.ensures)
+pub returns-then-not-is_abortable : goal.returns-then-not-is_abortable
+returns-then-not-is_abortable g c =
+    held_off g.S.Store.versions c.args.service.now (λ s. is_abortable s c.args.self.tool c.args.self.stamp) (Err (WrongState, c.args.self)) (only (Abort c.args.self.tool) (λ a. or_back c.args.self (without a))) (sym c.if-not-is_abortable.ensures)
 
 pub returns-in-Ok : goal.returns-in-Ok
 returns-in-Ok g c =
     single_through g.S.Store.versions c.args.service.now c.abort.new.self (λ s. is_abortable s c.args.self.tool c.args.self.stamp) (Err (WrongState, c.args.self)) (Abort c.args.self.tool) (λ a. or_back c.args.self (without a)) _ _
-    (sym c.if-not-is-abortable.ensures) c.in-Ok.ensures refl
+    (sym c.if-not-is_abortable.ensures) c.in-Ok.ensures refl
 
 pub returns-in-Err : goal.returns-in-Err
 returns-in-Err g c =
     single_through g.S.Store.versions c.args.service.now c.abort.new.self (λ s. is_abortable s c.args.self.tool c.args.self.stamp) (Err (WrongState, c.args.self)) (Abort c.args.self.tool) (λ a. or_back c.args.self (without a)) _ _
-    (sym c.if-not-is-abortable.ensures) c.in-Err.ensures refl
+    (sym c.if-not-is_abortable.ensures) c.in-Err.ensures refl

@@ -6,18 +6,18 @@ use Rattle.held.specs.Held.{or_back, settles_all}
 use Rattle.held.proofs.Made.{held_off, let_through}
 use Rattle.held.proofs.transactions.Grant.spend.Goals as goal
 
-pub returns-then-not-is-closed : goal.returns-then-not-is-closed
-returns-then-not-is-closed g c =
-    held_off g.S.Store.versions c.args.service.now (λ s. is_under Closed s c.args.self.tool c.args.self.stamp) (Err (WrongState, c.args.self)) (settles_all c.args.self c.args.call) (sym c.if-not-is-closed.ensures)
+pub returns-then-not-is_closed : goal.returns-then-not-is_closed
+returns-then-not-is_closed g c =
+    held_off g.S.Store.versions c.args.service.now (λ s. is_under Closed s c.args.self.tool c.args.self.stamp) (Err (WrongState, c.args.self)) (settles_all c.args.self c.args.call) (sym c.if-not-is_closed.ensures)
 
 pub returns-in-Ok : goal.returns-in-Ok
 returns-in-Ok g c =
     let f = c.in-Ok.ensures in
     let_through g.S.Store.versions c.args.service.now (λ s. is_under Closed s c.args.self.tool c.args.self.stamp) (Err (WrongState, c.args.self)) (settles_all c.args.self c.args.call) c.finish.new.service _
-    (sym c.if-not-is-closed.ensures) f.made (ap (or_back c.args.self) f.answer)
+    (sym c.if-not-is_closed.ensures) f.made (ap (or_back c.args.self) f.answer)
 
 pub returns-in-Err : goal.returns-in-Err
 returns-in-Err g c =
     let f = c.in-Err.ensures in
     let_through g.S.Store.versions c.args.service.now (λ s. is_under Closed s c.args.self.tool c.args.self.stamp) (Err (WrongState, c.args.self)) (settles_all c.args.self c.args.call) c.finish.new.service _
-    (sym c.if-not-is-closed.ensures) f.made (ap (or_back c.args.self) f.answer)
+    (sym c.if-not-is_closed.ensures) f.made (ap (or_back c.args.self) f.answer)

@@ -12,18 +12,18 @@ use Rattle.service.proofs.Claims.{certify_absent, certify_held, certify_rejected
 use Rattle.service.proofs.Lawful.{reads_ascend, writes_ascend, reads_room, writes_room}
 use Rattle.service.proofs.desks.Desk.certify.Goals as goal
 
-pub returns-in-default : goal.returns-in-default
-returns-in-default c = record {
+pub returns-in_default : goal.returns-in_default
+returns-in_default c = record {
   acts = λ vs f. certify_absent (state vs c.args.self.now) c.args.tool c.args.item
-      (absent_at vs c.args.self.now c.args.tool c.args.item c.index-self-t.result (omega arith) (sym c.in-default.ensures.value));
+      (absent_at vs c.args.self.now c.args.tool c.args.item c.index-self-t.result (omega arith) (sym c.in_default.ensures.value));
   quiet = λ _ _ _. refl;
 }
 
-pub returns-then-is-held : goal.returns-then-is-held
-returns-then-is-held c = record {
+pub returns-then-is_held : goal.returns-then-is_held
+returns-then-is_held c = record {
   acts = λ vs f. certify_held (state vs c.args.self.now) c.args.tool c.args.item _
       (present_at vs c.args.self.now c.args.tool c.args.item c.index-self-t.result (omega arith) c.in-Some.k (sym c.in-Some.ensures.value))
-      (sym c.if-is-held.ensures);
+      (sym c.if-is_held.ensures);
   quiet = λ _ _ _. refl;
 }
 
@@ -42,7 +42,7 @@ returns-in-Some-rejection c = record {
       certify_rejected (state vs d) c.args.tool c.args.item _
       (present_at vs d c.args.tool c.args.item c.index-self-t.result (omega arith) c.in-Some.k (sym c.in-Some.ensures.value))
       _ (ap (λ (x : Seat). x.stamp) (seat_at_tool vs d c.args.tool c.index-self-t.result (omega arith)))
-      (sym c.if-is-held.ensures) r (sym (c.in-Some-rejection.ensures vs f))
+      (sym c.if-is_held.ensures) r (sym (c.in-Some-rejection.ensures vs f))
       ∙ (ap (λ (x : Seat). (Err r, reseat (state vs d) c.args.tool (phased x Failed))) (seat_at_tool vs d c.args.tool z (omega arith))
       ∙ (ap (λ (x : Seat). (Err r, reseat (state vs d) c.args.tool x)) (sym c.fail.ensures)
       ∙ ap (λ (n : State). (Err r, n)) (sym (reseated vs d c.args.tool z (omega arith) c.fail.new.self))));
@@ -56,7 +56,7 @@ returns c = record {
       let m = c.enqueue.new.self in
       let present = present_at vs d c.args.tool c.args.item c.index-self-t.result (omega arith) c.in-Some.k (sym c.in-Some.ensures.value) in
       let stamp = ap (λ (x : Seat). x.stamp) (seat_at_tool vs d c.args.tool c.index-self-t.result (omega arith)) in
-      certify_honoured (state vs d) c.args.tool c.args.item _ present _ stamp (sym c.if-is-held.ensures) (sym (c.in-default-rejection.ensures vs f))
+      certify_honoured (state vs d) c.args.tool c.args.item _ present _ stamp (sym c.if-is_held.ensures) (sym (c.in_default-rejection.ensures vs f))
       ∙ settles vs _ (record { tools = set m.tools c.args.tool c.hold.new.self; reads = m.reads; writes = m.writes }) c.plain.result _ c.plain.ensures.told c.plain.ensures.same
       (moved vs vs d m (Certify c.args.tool c.args.item) c.index-self-t-2.result c.hold.new.self (omega arith) c.enqueue.ensures.tools
       (c.hold.ensures c.args.item (state vs d) c.args.tool
@@ -71,6 +71,6 @@ pub enqueue-requires : goal.enqueue-requires
 enqueue-requires c =
     let f = present_at [] c.args.self.now c.args.tool c.args.item c.index-self-t.result (omega arith) c.in-Some.k (sym c.in-Some.ensures.value) in
     record {
-      reads = reads_room c.args.self.now c.requires.lawful c.args.tool c.args.item _ c.requires.tool f (sym c.if-is-held.ensures);
-      writes = writes_room c.args.self.now c.requires.lawful c.args.tool c.args.item _ c.requires.tool f (sym c.if-is-held.ensures);
+      reads = reads_room c.args.self.now c.requires.lawful c.args.tool c.args.item _ c.requires.tool f (sym c.if-is_held.ensures);
+      writes = writes_room c.args.self.now c.requires.lawful c.args.tool c.args.item _ c.requires.tool f (sym c.if-is_held.ensures);
     }

@@ -13,8 +13,8 @@ pub returns : goal.returns
 returns c vs f =
     c.rejection.ensures
     ∙ ap (λ (x : Found). refusal (certification (claim c.args.entry c.args.stamp) x))
-    (standing_meets (state vs c.args.self.now) c.args.item c.args.stamp c.requires.reads c.requires.writes c.unwrap-or-twrite.result
-    (version_or vs c.args.item c.args.found f ∙ sym c.unwrap-or-twrite.ensures)
-    c.stamp-of-writer.result c.stamp-of-reader.result
-    (c.stamp-of-writer.ensures ∙ ap (option_map write_tells.stamp) c.oldest-above.ensures)
-    (c.stamp-of-reader.ensures ∙ ap (option_map read_tells.stamp) c.youngest.ensures))
+    (standing_meets (state vs c.args.self.now) c.args.item c.args.stamp c.requires.reads c.requires.writes c.unwrap_or-twrite.result
+    (version_or vs c.args.item c.args.found f ∙ sym c.unwrap_or-twrite.ensures)
+    c.stamp_of-writer.result c.stamp_of-reader.result
+    (c.stamp_of-writer.ensures ∙ ap (option_map write_tells.stamp) c.oldest_above.ensures)
+    (c.stamp_of-reader.ensures ∙ ap (option_map read_tells.stamp) c.youngest.ensures))

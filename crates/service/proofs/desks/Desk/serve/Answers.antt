@@ -4,43 +4,43 @@ use Rattle.service.specs.Service.{allowed, tool_of}
 use Rattle.service.proofs.Acts.{arm, serves_wrong}
 use Rattle.service.proofs.desks.Desk.serve.Goals as goal
 
-pub returns-in-default : goal.returns-in-default
-returns-in-default c =
+pub returns-in_default : goal.returns-in_default
+returns-in_default c =
     let e = c.tool-tool.ensures in
     let h : allowed c.args.call (get_or c.args.self.now.tools c.tool-tool.result c.index-self-t.result).phase ≡ false = search rules in
     let wrong = serves_wrong c.args.self.now c.args.call c.tool-tool.result c.index-self-t.result e (omega arith) (omega arith) c.args.found h in
     record { serves = wrong; quiet = λ _ _ _. refl }
 
-pub returns-in-default·2 : goal.returns-in-default·2
-returns-in-default·2 c =
+pub returns-in_default·2 : goal.returns-in_default·2
+returns-in_default·2 c =
     let e = c.tool-tool.ensures in
     let h : allowed c.args.call (get_or c.args.self.now.tools c.tool-tool.result c.index-self-t.result).phase ≡ false = search rules in
     let wrong = serves_wrong c.args.self.now c.args.call c.tool-tool.result c.index-self-t.result e (omega arith) (omega arith) c.args.found h in
     record { serves = wrong; quiet = λ _ _ _. refl }
 
-pub returns-in-default·3 : goal.returns-in-default·3
-returns-in-default·3 c =
+pub returns-in_default·3 : goal.returns-in_default·3
+returns-in_default·3 c =
     let e = c.tool-tool.ensures in
     let h : allowed c.args.call (get_or c.args.self.now.tools c.tool-tool.result c.index-self-t.result).phase ≡ false = search rules in
     let wrong = serves_wrong c.args.self.now c.args.call c.tool-tool.result c.index-self-t.result e (omega arith) (omega arith) c.args.found h in
     record { serves = wrong; quiet = λ _ _ _. refl }
 
-pub returns-in-default·4 : goal.returns-in-default·4
-returns-in-default·4 c =
+pub returns-in_default·4 : goal.returns-in_default·4
+returns-in_default·4 c =
     let e = c.tool-tool.ensures in
     let h : allowed c.args.call (get_or c.args.self.now.tools c.tool-tool.result c.index-self-t.result).phase ≡ false = search rules in
     let wrong = serves_wrong c.args.self.now c.args.call c.tool-tool.result c.index-self-t.result e (omega arith) (omega arith) c.args.found h in
     record { serves = wrong; quiet = λ _ _ _. refl }
 
-pub returns-in-default·5 : goal.returns-in-default·5
-returns-in-default·5 c =
+pub returns-in_default·5 : goal.returns-in_default·5
+returns-in_default·5 c =
     let e = c.tool-tool.ensures in
     let h : allowed c.args.call (get_or c.args.self.now.tools c.tool-tool.result c.index-self-t.result).phase ≡ false = search rules in
     let wrong = serves_wrong c.args.self.now c.args.call c.tool-tool.result c.index-self-t.result e (omega arith) (omega arith) c.args.found h in
     record { serves = wrong; quiet = λ _ _ _. refl }
 
-pub returns-in-default·6 : goal.returns-in-default·6
-returns-in-default·6 c =
+pub returns-in_default·6 : goal.returns-in_default·6
+returns-in_default·6 c =
     let e = c.tool-tool.ensures in
     let h : allowed c.args.call (get_or c.args.self.now.tools c.tool-tool.result c.index-self-t.result).phase ≡ false = search rules in
     let wrong = serves_wrong c.args.self.now c.args.call c.tool-tool.result c.index-self-t.result e (omega arith) (omega arith) c.args.found h in

@@ -10,18 +10,18 @@ use Rattle.service.proofs.Items.{absent_at, present_at, same_tool, moved}
 use Rattle.service.proofs.Claims.{settle_absent, settle_bare, settle_held, settle_reads, settle_writes, settle_versions}
 use Rattle.service.proofs.desks.Desk.settle.Goals as goal
 
-pub returns-in-default : goal.returns-in-default
-returns-in-default c = record {
+pub returns-in_default : goal.returns-in_default
+returns-in_default c = record {
   acts = λ vs f. settle_absent (state vs c.args.self.now) c.args.t c.args.item
-      (absent_at vs c.args.self.now c.args.t c.args.item c.index-self-t.result (omega arith) (sym c.in-default.ensures.value));
+      (absent_at vs c.args.self.now c.args.t c.args.item c.index-self-t.result (omega arith) (sym c.in_default.ensures.value));
   quiet = λ _ _ _. refl;
 }
 
-pub returns-then-not-is-held : goal.returns-then-not-is-held
-returns-then-not-is-held c = record {
+pub returns-then-not-is_held : goal.returns-then-not-is_held
+returns-then-not-is_held c = record {
   acts = λ vs f. settle_bare (state vs c.args.self.now) c.args.t c.args.item _
       (present_at vs c.args.self.now c.args.t c.args.item c.index-self-t.result (omega arith) c.in-Some.k (sym c.in-Some.ensures.value))
-      (sym c.if-not-is-held.ensures);
+      (sym c.if-not-is_held.ensures);
   quiet = λ _ _ _. refl;
 }
 
@@ -33,7 +33,7 @@ returns c = record {
       let present = present_at vs d c.args.t c.args.item c.index-self-t.result (omega arith) c.in-Some.k (sym c.in-Some.ensures.value) in
       let own = seat_at_tool vs d c.args.t c.index-self-t.result (omega arith) in
       let stamp = ap (λ (x : Seat). x.stamp) own in
-      settle_held (state vs d) c.args.t c.args.item _ present (sym c.if-not-is-held.ensures)
+      settle_held (state vs d) c.args.t c.args.item _ present (sym c.if-not-is_held.ensures)
       ∙ ap (λ (n : State). (Ok Done, n))
       (moved vs _ d m (Settle c.args.t c.args.item) c.index-self-t-2.result c.settle.new.self (omega arith) c.dequeue.ensures.tools
       (c.settle.ensures c.args.item (state vs d) c.args.t

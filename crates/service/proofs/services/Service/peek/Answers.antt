@@ -9,7 +9,7 @@ pub returns-in-Some : goal.returns-in-Some
 returns-in-Some g c =
     let vs = g.S.Store.versions c.args.self.now.store in
     let v = got vs c.args.item c.in-Some.version (sym c.in-Some.ensures) in
-    looked_known (state_of g.S.Store.versions c.args.self.now) c.args.item c.in-Some.version _ _ v.0 v.1 c.token-counts-reads.ensures.reads c.token-counts-reads.ensures.writes
+    looked_known (state_of g.S.Store.versions c.args.self.now) c.args.item c.in-Some.version _ _ v.0 v.1 c.token_counts-reads.ensures.reads c.token_counts-reads.ensures.writes
 
 pub returns-in-None : goal.returns-in-None
 returns-in-None g c =

@@ -3,7 +3,7 @@ use Rattle.service.proofs.Largest.{largest_more, largest_all}
 use Rattle.service.proofs.Lawful.{lawful_start}
 use Rattle.service.proofs.Replies.{past_end}
 use Rattle.service.proofs.services.Service.start.Goals as goal
-use Rattle.service.proofs.services.Service.start.Goals.{in-Some, in-default}
+use Rattle.service.proofs.services.Service.start.Goals.{in-Some, in_default}
 
 pub loop-item-init : goal.loop-item-init
 loop-item-init g c = (c.count-item-end.ensures, omega arith)
@@ -17,15 +17,15 @@ loop-item-preserved g c =
         largest_more vs c.loop-item.item c.loop-item.largest w.in-Some.version
             (sym c.get.ensures ∙ w.in-Some.is) c.loop-item.invariant.1 w.max.result c.match-get.largest w.max.ensures (w.largest-is ∙ w.max-largest.ensures),
       )
-      | in-default w ↦
-          let p = past_end vs c.loop-item.item (sym c.get.ensures ∙ w.in-default.is) in
+      | in_default w ↦
+          let p = past_end vs c.loop-item.item (sym c.get.ensures ∙ w.in_default.is) in
           let n = c.count-item-end.ensures in
           let t = c.loop-item-test.true in
           absurd (omega arith)
     ]
 
-pub invariant-of-result : goal.invariant-of-result
-invariant-of-result g c =
+pub invariant_of-result : goal.invariant_of-result
+invariant_of-result g c =
     let vs = g.S.Store.versions c.args.store in
     let n = c.count-item-end.ensures in
     (lawful_start vs c.new.result (c.new.ensures vs (largest_all vs c.loop-item.item c.loop-item.largest (omega arith) c.loop-item.invariant.1)), tt)

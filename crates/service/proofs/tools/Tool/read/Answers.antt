@@ -17,13 +17,13 @@ pub returns-then-self-eq-ENTRIES : goal.returns-then-self-eq-ENTRIES
 returns-then-self-eq-ENTRIES c s t h =
     let es : List Entry = take c.args.self.now.used c.args.self.now.entries in
     read_full s (seat_of c.args.self.now) t c.args.item (got s.versions c.args.item c.args.version h).0
-    (index_none 0 c.args.item es (sym c.in-default.ensures.value)).0
+    (index_none 0 c.args.item es (sym c.in_default.ensures.value)).0
     (let l = length-take-le c.args.self.now.used c.args.self.now.entries (omega arith) in omega arith)
 
 pub returns : goal.returns
 returns c s t h =
     let es : List Entry = take c.args.self.now.used c.args.self.now.entries in
-    let none = index_none 0 c.args.item es (sym c.in-default.ensures.value) in
+    let none = index_none 0 c.args.item es (sym c.in_default.ensures.value) in
     let g = got s.versions c.args.item c.args.version h in
     read_first s (seat_of c.args.self.now) t c.args.item g.0 c.args.version g.1 none.0
     (let l = length-take-le c.args.self.now.used c.args.self.now.entries (omega arith) in omega arith)

@@ -23,13 +23,13 @@ pub returns-then-self-eq-ENTRIES : goal.returns-then-self-eq-ENTRIES
 returns-then-self-eq-ENTRIES c s t h =
     let es : List Entry = take c.args.self.now.used c.args.self.now.entries in
     write_full s (seat_of c.args.self.now) t c.args.item h c.args.value
-    (index_none 0 c.args.item es (sym c.in-default.ensures.value)).0
+    (index_none 0 c.args.item es (sym c.in_default.ensures.value)).0
     (let l = length-take-le c.args.self.now.used c.args.self.now.entries (omega arith) in omega arith)
 
 pub returns : goal.returns
 returns c s t h =
     let es : List Entry = take c.args.self.now.used c.args.self.now.entries in
-    let none = index_none 0 c.args.item es (sym c.in-default.ensures.value) in
+    let none = index_none 0 c.args.item es (sym c.in_default.ensures.value) in
     write_first s (seat_of c.args.self.now) t c.args.item h c.args.value none.0
     (let l = length-take-le c.args.self.now.used c.args.self.now.entries (omega arith) in omega arith)
     (seat_of c.push.new.self)

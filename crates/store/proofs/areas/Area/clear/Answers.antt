@@ -1,6 +1,6 @@
 use Rattle.std.proofs.Common.{◌+◌, ◌-◌, length, set, replicate, ap, ◌∙◌, arith}
 use Rattle.std.proofs.lemmas.List.Edits.{paste_none, fill_from_more}
-use Rattle.store.proofs.Shifts.{clear-all}
+use Rattle.store.proofs.Shifts.{clear_all}
 use Rattle.store.proofs.areas.Area.clear.Goals as goal
 
 pub loop-i-init : goal.loop-i-init
@@ -14,4 +14,4 @@ loop-i-preserved c =
 pub returns : goal.returns
 returns c =
     c.loop-i.invariant
-    ∙ clear-all c.args.self.now.bytes.now c.args.from (length c.args.self.now.bytes.now - c.args.from) c.loop-i.i (omega arith) (omega arith)
+    ∙ clear_all c.args.self.now.bytes.now c.args.from (length c.args.self.now.bytes.now - c.args.from) c.loop-i.i (omega arith) (omega arith)

@@ -2,7 +2,7 @@ use Rattle.std.proofs.Common.{◌≡◌, ℕ, ◌+◌, List, get_or, set, sym, a
 use lib.Seq.{paste}
 use Rattle.std.proofs.lemmas.List.Edits.{paste_none}
 use Rattle.store.specs.Bytes.{part}
-use Rattle.store.proofs.Shifts.{shift-more, shift-all}
+use Rattle.store.proofs.Shifts.{shift_more, shift_all}
 use Rattle.store.proofs.areas.Area.shift.Goals as goal
 
 pub loop-i-init : goal.loop-i-init
@@ -10,10 +10,10 @@ loop-i-init c = paste_none c.args.self.now.bytes.now c.args.to (part c.args.from
 
 pub loop-i-preserved : goal.loop-i-preserved
 loop-i-preserved c =
-    shift-more c.args.self.now.bytes.now c.loop-i.self.bytes.now c.args.from c.args.to c.args.size c.loop-i.i
+    shift_more c.args.self.now.bytes.now c.loop-i.self.bytes.now c.args.from c.args.to c.args.size c.loop-i.i
     (omega arith) (omega arith) (omega arith) c.loop-i.invariant
 
 pub returns : goal.returns
 returns c =
     c.loop-i.invariant
-    ∙ shift-all c.args.self.now.bytes.now c.args.from c.args.to c.args.size c.loop-i.i (omega arith) (omega arith)
+    ∙ shift_all c.args.self.now.bytes.now c.args.from c.args.to c.args.size c.loop-i.i (omega arith) (omega arith)

@@ -30,11 +30,16 @@ index-self-requires c =
       items = λ k h. omega (arith, done.good.few, item_below after count k done.good (omega (arith, done.counts)));
     }
 
-pub invariant-of-self : goal.invariant-of-self
-invariant-of-self c =
+pub invariant_of-self : goal.invariant_of-self
+invariant_of-self c =
     let b : List ℕ = c.args.self.now.area.bytes.now in
     let after : List ℕ = c.compact-used.new.area.bytes.now in
     let count : ℕ = c.args.self.now.count in
     let held = c.args.self.now.good c.requires in
     let done = shrinks b after count c.args.self.now.used c.compact-used.result (good_from b count held.0) held.1 c.compact-used.ensures.bytes c.compact-used.ensures.count in
-    (c.args.self.now.few, (c.index-self.ensures.wide, ((λ _. (from_good after count done.good, done.counts)), ((λ item below. c.index-self.ensures.places item (omega (arith, done.good.few))), tt))))
+    record {
+      few = c.args.self.now.few;
+      wide = c.index-self.ensures.wide;
+      good = λ _. (from_good after count done.good, done.counts);
+      index = λ item below. c.index-self.ensures.places item (omega (arith, done.good.few));
+    }

@@ -4,7 +4,7 @@ use Rattle.store.proofs.logs.Log.open.Goals as goal
 
 pub index-latest-requires : goal.index-latest-requires
 index-latest-requires c =
-    let ok = ap is_ok (sym c.check.ensures) ∙ sym c.is-ok-good.ensures.value ∙ c.if-good.true in
+    let ok = ap is_ok (sym c.check.ensures) ∙ sym c.is_ok-good.ensures.value ∙ c.if-good.true in
     let g = good_from c.args.bytes.now c.args.count ok in
     record {
       fits = c.used-used.ensures.fits;

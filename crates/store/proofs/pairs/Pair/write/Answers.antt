@@ -1,6 +1,6 @@
 use Rattle.std.proofs.Common.{length, set, sym, refl, ap, ◌∙◌, arith}
 use Rattle.store.specs.Pair.{pair}
-use Rattle.store.proofs.PairLaws.{set-pair-first, set-pair-second, set_pair_past}
+use Rattle.store.proofs.PairLaws.{set_pair_first, set_pair_second, set_pair_past}
 use Rattle.store.proofs.pairs.Pair.write.Goals as goal
 
 pub returns-in-First : goal.returns-in-First
@@ -9,7 +9,7 @@ returns-in-First g c =
     record {
       versions =
           ap (λ l. pair l (g.B.Store.versions c.args.self.now.second)) (c.put.ensures ∙ ap (λ k. set (g.A.Store.versions c.args.self.now.first) k c.args.version) at.0)
-          ∙ set-pair-first (g.A.Store.versions c.args.self.now.first) (g.B.Store.versions c.args.self.now.second) c.args.item c.args.version (g.A.Store.few c.args.self.now.first) at.1;
+          ∙ set_pair_first (g.A.Store.versions c.args.self.now.first) (g.B.Store.versions c.args.self.now.second) c.args.item c.args.version (g.A.Store.few c.args.self.now.first) at.1;
       first = λ past. absurd (omega (arith, at.1));
       second = λ _. refl;
       past = λ _. refl;
@@ -21,7 +21,7 @@ returns-in-Second g c =
     record {
       versions =
           ap (pair (g.A.Store.versions c.args.self.now.first)) (c.put-in-Second.ensures ∙ ap (λ k. set (g.B.Store.versions c.args.self.now.second) k c.args.version) (omega (arith, at.0)))
-          ∙ set-pair-second (g.A.Store.versions c.args.self.now.first) (g.B.Store.versions c.args.self.now.second) c.args.item c.args.version (omega (arith, at.0)) at.1;
+          ∙ set_pair_second (g.A.Store.versions c.args.self.now.first) (g.B.Store.versions c.args.self.now.second) c.args.item c.args.version (omega (arith, at.0)) at.1;
       first = λ _. refl;
       second = λ below. absurd (omega (arith, at.0));
       past = λ past. absurd (omega (arith, at.1));

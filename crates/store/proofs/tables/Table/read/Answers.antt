@@ -1,5 +1,5 @@
 use Rattle.std.proofs.Common.{◌≡◌, ℕ, ◌+◌, ◌-◌, ◌*◌, List, length, take, drop, sym, ap, ◌∙◌, arith}
-use Rattle.std.proofs.lemmas.Bool.{cond_true, eq-eqb}
+use Rattle.std.proofs.lemmas.Bool.{cond-true, eq-eqb}
 use Rattle.store.specs.Bytes.{part}
 use Rattle.store.specs.Packed.{unpacked}
 use Rattle.store.proofs.Made.{nth_made, nth_made_past}
@@ -16,5 +16,5 @@ returns c =
     let buffer : List ℕ = c.args.self.now.area.bytes.now in
     let known = simp size at c.unpack.ensures in
     known
-    ∙ cond_true _ _ _ (eq-eqb _ _ (length_part at 20 buffer (omega arith)))
+    ∙ cond-true _ _ _ (eq-eqb _ _ (length_part at 20 buffer (omega arith)))
     ∙ sym (nth_made _ _ _ c.if-item-self.false)
