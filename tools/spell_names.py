@@ -30,6 +30,7 @@ DECLARED = re.compile(
     r"^( *)((?:(?:pub|abbrev|unfoldable|record|data|mutual) +)*)([^\s:(){}λ.,;\[]+(?: +[^\s:(){}λ.,;\[]+)*?)"
     r"((?: +[({].*[)}])*) +:(?: +(.*))?$"
 )
+STD = re.compile(r"^(?:ghost )?use Rattle\.std\.[^{\n]*\{([^}]*)\}", re.M)
 LEMMAS = re.compile(r"crates/\w+/proofs/\w+\.antt")
 
 
@@ -96,7 +97,8 @@ def main():
         lemmas = LEMMAS.fullmatch(path)
         with open(path, encoding="utf-8") as file:
             text = file.read()
-        new = word.sub(lambda m: turned[m[1]] if lemmas or is_old(m[1]) else m[1], text)
+        std = {n.strip() for line in STD.findall(text) for n in line.split(",")}
+        new = word.sub(lambda m: turned[m[1]] if (lemmas or is_old(m[1])) and m[1] not in std else m[1], text)
         if new != text:
             with open(path, "w", encoding="utf-8") as file:
                 file.write(new)

@@ -1,6 +1,6 @@
 -- What serving a frame comes to once its call is made.
 use Rattle.std.proofs.Common.{◌≡◌, ℕ, ◌+◌, ◌<◌, ◌≤◌, cond, ltb, List, [], ◌∷◌, ◌++◌, length, take, IfOk, Some, None, Ok, Err, Option, Result, sym, refl, ap, ◌∙◌, subst, arith}
-use Rattle.std.proofs.lemmas.Bool.{le-ltb, cond_false}
+use Rattle.std.proofs.lemmas.Bool.{le-ltb, cond-false}
 use Rattle.store.specs.declared.Version.{Version}
 use Rattle.store.specs.Bytes.{over}
 use Rattle.service.specs.declared.services.Service.{Service}
@@ -53,10 +53,10 @@ pub served :
     → Serves versions x buffer r y after (accepted frame buffer)
 served versions x y frame buffer after r c a reads room makes put back =
     let short = reply_short a in
-    let all = put ∙ cond_false (ltb (length buffer) (length (reply_of a))) (Err Room, buffer) (Ok (length (reply_of a)), over 0 (reply_of a) buffer) (le-ltb _ _ (omega arith)) in
+    let all = put ∙ cond-false (ltb (length buffer) (length (reply_of a))) (Err Room, buffer) (Ok (length (reply_of a)), over 0 (reply_of a) buffer) (le-ltb _ _ (omega arith)) in
     let counts : r ≡ Ok (length (reply_of a)) = ap (λ (p : Result ℕ Fault × List ℕ). p.0) all in
     let takes : accepted frame buffer ≡ Ok c =
-    ap (λ (q : Result Call Fault). bind q (λ d. cond (ltb (length buffer) 15) (Err Room) (Ok d))) (sym reads) ∙ cond_false (ltb (length buffer) 15) (Err Room) (Ok c) (le-ltb _ _ room) in
+    ap (λ (q : Result Call Fault). bind q (λ d. cond (ltb (length buffer) 15) (Err Room) (Ok d))) (sym reads) ∙ cond-false (ltb (length buffer) 15) (Err Room) (Ok c) (le-ltb _ _ room) in
     let told = subst (λ (q : Result ℕ Fault). IfOk q (λ n. (d : Call) → Suits d a → read_reply d (take n after) ≡ Ok a)) counts back in
     let is : Answered versions x buffer r y after c a = record {
       makes = makes;

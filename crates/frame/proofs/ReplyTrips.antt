@@ -1,6 +1,6 @@
 -- Each reply has one frame. Assumes nothing.
 use Rattle.std.proofs.Common.{◌≡◌, ℕ, ◌<◌, false, cond, eqb, List, [], ◌∷◌, ◌++◌, length, Ok, Err, Result, sym, refl, ap, ◌∙◌, subst, ⊎_elim, append-nil, arith}
-use Rattle.std.proofs.lemmas.Bool.{cond_false}
+use Rattle.std.proofs.lemmas.Bool.{cond-false}
 use Rattle.service.specs.declared.calls.Call.{Call}
 use Rattle.service.specs.declared.calls.Call.TheVariants.{Begin, Read, Close}
 use Rattle.service.specs.declared.calls.Answer.{Answer}
@@ -64,7 +64,7 @@ read_written c (Ok a) suits fits =
 read_written c (Err r) suits fits =
     let is = numbered r in
     headed c (number r) [] is.fits
-    ∙ ap (λ x. bind x ended) (cond_false (eqb (number r) 0) _ _ is.above ∙ ap (λ x. bind x (λ s. Ok (Err s, []))) is.comes)
+    ∙ ap (λ x. bind x ended) (cond-false (eqb (number r) 0) _ _ is.above ∙ ap (λ x. bind x (λ s. Ok (Err s, []))) is.comes)
 
 -- writing what was read
 

@@ -1,6 +1,6 @@
 -- Each request has one frame. Assumes nothing.
 use Rattle.std.proofs.Common.{◌≡◌, ℕ, zero, suc, ◌+◌, ◌-◌, ◌*◌, ◌^◌, ◌<◌, ◌≤◌, Bool, true, false, cond, not, eqb, ltb, ◌⊎◌, List, [], ◌∷◌, ◌++◌, length, get_or, take, drop, Ok, Err, Result, sym, refl, ap, ◌∙◌, subst, inl, inr, ⊎_elim, append_assoc, append-nil, arith}
-use Rattle.std.proofs.lemmas.Bool.{cases_Bool, cond_true, cond_false, eqb-true, ltb-false, not_false}
+use Rattle.std.proofs.lemmas.Bool.{cases_Bool, cond-true, cond-false, eqb-true, ltb-false, not-false}
 use Rattle.std.proofs.lemmas.List.{length-append, take_at, drop_at, take-append-drop, drop-drop, length-take, length-drop, get_or-take, get_or-drop}
 use Rattle.store.specs.Bytes.{number_in, bytes_of, part}
 use Rattle.service.specs.declared.calls.Call.{Call}
@@ -86,7 +86,7 @@ module _ (k : Kind) (n : ℕ) (rest : List ℕ) where
       let (sized, h3) = cond_ok _ _ _ _ h2 in
       let (long, h4) = cond_ok _ _ _ _ h3 in
       let (value, back) = same_pair _ _ _ _ h4 in (
-        parts frame bytes (ltb-false _ _ long) (eqb-true _ _ (not_false _ tagged)) (eqb-true _ _ (not_false _ sized)) value back,
+        parts frame bytes (ltb-false _ _ long) (eqb-true _ _ (not-false _ tagged)) (eqb-true _ _ (not-false _ sized)) value back,
         subst Bytes back (bytes_drop (3 + width k) frame bytes),
       )
 
@@ -126,7 +126,7 @@ record Argued (t n : ℕ) (frame : List ℕ) (c : Call) (rest : List ℕ) : Type
   takes : frame ≡ arguments c ++ rest
 
 pub choose : {X : Type 0} (n m : ℕ) (a b r : X) → cond (eqb n m) a b ≡ r → ((n ≡ m) × (a ≡ r)) ⊎ (b ≡ r)
-choose n m a b r h = ⊎_elim (λ e. inl (eqb-true n m e, sym (cond_true (eqb n m) a b e) ∙ h)) (λ e. inr (sym (cond_false (eqb n m) a b e) ∙ h)) (cases_Bool (eqb n m))
+choose n m a b r h = ⊎_elim (λ e. inl (eqb-true n m e, sym (cond-true (eqb n m) a b e) ∙ h)) (λ e. inr (sym (cond-false (eqb n m) a b e) ∙ h)) (cases_Bool (eqb n m))
 
 module _ (t n : ℕ) (frame : List ℕ) (bytes : Bytes frame) (c : Call) (rest : List ℕ) where
   none : (d : Call) → tool_of d ≡ t → n ≡ number d → arguments d ≡ [] → with_none d frame ≡ Ok (c, rest) → Argued t n frame c rest

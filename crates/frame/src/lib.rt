@@ -1,3 +1,4 @@
+#![tactic(auto)]
 // Requests and replies as frames: fields of bytes, one after the other.
 mod drafts;
 mod faults;

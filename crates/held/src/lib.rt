@@ -1,3 +1,4 @@
+#![tactic(auto)]
 // Transactions held as values: the types allow only what the transaction's state allows.
 mod closing;
 mod grants;

@@ -1,6 +1,6 @@
 -- A certified entry leaves no write between a reader and the version that it read.
 use Rattle.std.proofs.Common.{◌≡◌, ℕ, ◌<◌, ◌≤◌, Bool, true, false, not, ◌&&◌, eqb, leb, ◌⊎◌, List, length, set, is_some as option_is_some, Some, None, Option, unwrap_or, sym, refl, ap, ◌∙◌, subst, inl, inr, arith}
-use Rattle.std.proofs.lemmas.Bool.{eqb-true, leb-false, not_false}
+use Rattle.std.proofs.lemmas.Bool.{eqb-true, leb-false, not-false}
 use Rattle.store.specs.declared.Version.{Version}
 use Rattle.queue.specs.Tokens.{has, between}
 use Rattle.service.specs.declared.calls.Call.TheVariants.{Certify}
@@ -23,7 +23,7 @@ passed : (o : Option ℕ) (w tw st : ℕ) (b : Bool) → o ≡ Some w → (optio
 passed None w tw st b h r9 r10 r11 = let z : ◌≡◌ {A = ℕ} 0 1 = cc in absurd (omega arith)
 passed (Some v) w tw st b h r9 r10 r11 =
     let q : v ≡ w = cc in
-    (eqb-true tw v (not_false (eqb tw v) r9) ∙ q, leb-false st tw r10, r11)
+    (eqb-true tw v (not-false (eqb tw v) r9) ∙ q, leb-false st tw r10, r11)
 
 pub is_some : (o : Option ℕ) (w : ℕ) → o ≡ Some w → option_is_some o ≡ true
 is_some None w h = let z : ◌≡◌ {A = ℕ} 0 1 = cc in absurd (omega arith)

@@ -1,6 +1,6 @@
 -- Each accepted call keeps the cards' invariant and its link to the history.
 use Rattle.std.proofs.Common.{◌≡◌, ℕ, ◌+◌, ◌*◌, ◌<◌, Bool, true, false, cond, not, ◌||◌, eqb, leb, ◌⊎◌, List, ◌∷◌, length, Some, sym, refl, ap, ◌∙◌, subst, inl, inr, arith}
-use Rattle.std.proofs.lemmas.Bool.{both_ways, eq-eqb, ne_eqb, leb-false, not_false, or_cases}
+use Rattle.std.proofs.lemmas.Bool.{both_ways, eq-eqb, ne_eqb, leb-false, not-false, or_cases}
 use Rattle.store.specs.declared.Version.{Version}
 use Rattle.service.specs.declared.calls.Call.{Call}
 use Rattle.service.specs.declared.calls.Call.TheVariants.{Begin, Read, Write, Close, Certify, Commit, Abort, Settle}
@@ -238,7 +238,7 @@ module _ (vs : List Version) (s : State) (g : Ghost) (ts : List Transaction) (k 
         mine false n = absurd (n refl)
 
   in_phase : (t : ℕ) (p : Phase) → not (is (seat s t).phase p) ≡ false → (seat s t).phase ≡ p
-  in_phase t p h = is_true (seat s t).phase p (not_false (is (seat s t).phase p) h)
+  in_phase t p h = is_true (seat s t).phase p (not-false (is (seat s t).phase p) h)
 
   in_range : (i : ℕ) → leb (length s.versions) i ≡ false → i < length vs
   in_range i h = let a = leb-false (length s.versions) i h in let b = k.count in omega arith
@@ -254,9 +254,9 @@ module _ (vs : List Version) (s : State) (g : Ghost) (ts : List Transaction) (k 
       let cl = in_phase t Closed r.1.0 in
       let fd = found i (find i (seat s t).entries) r.1.1.0 in
       certify_kept t lt i cl fd (certify_core vs s g k z t lt i fd cl r.1.1.1.1)
-  kept (Commit t) r = commit_kept t (tool_below t r.0) (in_phase t Closed r.1.0) (not_false (all_held (seat s t).entries) r.1.1.0)
+  kept (Commit t) r = commit_kept t (tool_below t r.0) (in_phase t Closed r.1.0) (not-false (all_held (seat s t).entries) r.1.1.0)
   kept (Abort t) r = go (or_cases (is (seat s t).phase Open) (is (seat s t).phase Closed || is (seat s t).phase Failed)
-      (not_false (is (seat s t).phase Open || (is (seat s t).phase Closed || is (seat s t).phase Failed)) r.1.0))
+      (not-false (is (seat s t).phase Open || (is (seat s t).phase Closed || is (seat s t).phase Failed)) r.1.0))
     where
       lt : t < 16
       lt = tool_below t r.0
@@ -271,9 +271,9 @@ module _ (vs : List Version) (s : State) (g : Ghost) (ts : List Transaction) (k 
           abort_kept t lt Open op refl refl (λ a. both_ways (any_held (seat s t).entries) ((z.seats t lt).calm (inr op)) a)
       go (inr h) = later (or_cases (is (seat s t).phase Closed) (is (seat s t).phase Failed) h)
   kept (Settle t i) r = settle_kept t (tool_below t r.0) i
-      (go (or_cases (is (seat s t).phase Committed) (is (seat s t).phase Aborting) (not_false (is (seat s t).phase Committed || is (seat s t).phase Aborting) r.1.0)))
+      (go (or_cases (is (seat s t).phase Committed) (is (seat s t).phase Aborting) (not-false (is (seat s t).phase Committed || is (seat s t).phase Aborting) r.1.0)))
       (found i (find i (seat s t).entries) r.1.1.0)
-      (not_false (is_held (entry (seat s t) i).stand) r.1.1.1.0)
+      (not-false (is_held (entry (seat s t) i).stand) r.1.1.1.0)
     where
       go : (is (seat s t).phase Committed ≡ true) ⊎ (is (seat s t).phase Aborting ≡ true) → ((seat s t).phase ≡ Committed) ⊎ ((seat s t).phase ≡ Aborting)
       go (inl h) = inl (is_true (seat s t).phase Committed h)

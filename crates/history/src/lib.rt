@@ -1,3 +1,4 @@
+#![tactic(auto)]
 // What every run of the service shows. A run is a list of calls with their answers, from start on; the specifications
 // say what its serial order is. These functions do nothing: their contracts are the laws.
 ghost use Rattle.history.specs.Runs.{SerialOrder, QueuesHold, RefusalsKeep, OnlySettleWrites, StampsFresh};

@@ -1,3 +1,4 @@
+#![tactic(auto)]
 // One ordered queue for every kind of token that tells its item and its stamp.
 ghost use Rattle.std.specs.Prelude.{◌≡◌, ◌+◌, ◌-◌, ◌≤◌, [], length, take, if◌then◌else◌, nat_lt};
 ghost use Rattle.queue.specs.Tokens.{Tells, insert, has, remove, count, oldest, youngest};
@@ -28,12 +29,12 @@ pub trait Queued: Token {
     fn insert_into(places: &mut [Self; PLACES], used: usize, token: Self) -> bool
         ensures fits { result ≡ nat_lt used 128 }
         ensures room { result ≡ nat_lt (length (take used places.old)) 128 }
-        ensures inserts { take (if result then used + 1 else used) places.new ≡ insert tells 128 token (take used places.old) };
+        ensures inserts { take (if result then used + 1 else used) places.new ≡ insert Self.tells 128 token (take used places.old) };
 
     // `slices::remove`
     fn remove_from(places: &mut [Self; PLACES], used: usize, item: Item, stamp: Stamp) -> bool
-        ensures found { result ≡ has tells item stamp (take used places.old) }
-        ensures removes { used ≤ 128 → take (if result then used - 1 else used) places.new ≡ remove tells item stamp (take used places.old) };
+        ensures found { result ≡ has Self.tells item stamp (take used places.old) }
+        ensures removes { used ≤ 128 → take (if result then used - 1 else used) places.new ≡ remove Self.tells item stamp (take used places.old) };
 }
 
 impl<T: Token> Queue<T> {
@@ -55,20 +56,20 @@ impl<T: Token> Queue<T> {
 
     // How many tokens the item has.
     pub fn count(&self, item: Item) -> usize
-        ensures { result ≡ count tells item (tokens self.now) }
+        ensures { result ≡ count T.tells item (tokens self.now) }
     {
         slices::count(self.tokens(), item)
     }
 
     // The oldest token of the item with a larger stamp.
     pub fn oldest_above(&self, item: Item, stamp: Stamp) -> Option<T>
-        ensures { result ≡ oldest tells item stamp (tokens self.now) }
+        ensures { result ≡ oldest T.tells item stamp (tokens self.now) }
     {
         slices::oldest_above(self.tokens(), item, stamp)
     }
 
     pub fn youngest(&self, item: Item) -> Option<T>
-        ensures { result ≡ youngest tells item (tokens self.now) }
+        ensures { result ≡ youngest T.tells item (tokens self.now) }
     {
         slices::youngest(self.tokens(), item)
     }
@@ -85,7 +86,7 @@ impl<T: Queued> Queue<T> {
     // Puts the token behind those of an equal or smaller stamp; a full queue refuses it and stays as it is.
     pub fn insert(&mut self, token: T) -> bool
         ensures fits { result ≡ nat_lt (length (tokens self.old)) 128 }
-        ensures after { tokens self.new ≡ insert T.Token.tells 128 token (tokens self.old) }
+        ensures after { tokens self.new ≡ insert T.tells 128 token (tokens self.old) }
     {
         let fits = T::insert_into(&mut self.places, self.used, token);
         if fits {
@@ -96,8 +97,8 @@ impl<T: Queued> Queue<T> {
 
     // Takes out the first token with that item and stamp, and says whether there was one.
     pub fn remove(&mut self, item: Item, stamp: Stamp) -> bool
-        ensures found { result ≡ has T.Token.tells item stamp (tokens self.old) }
-        ensures after { tokens self.new ≡ remove T.Token.tells item stamp (tokens self.old) }
+        ensures found { result ≡ has T.tells item stamp (tokens self.old) }
+        ensures after { tokens self.new ≡ remove T.tells item stamp (tokens self.old) }
     {
         let found = T::remove_from(&mut self.places, self.used, item, stamp);
         if found {

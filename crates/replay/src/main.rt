@@ -1,3 +1,4 @@
+#![tactic(auto)]
 // Replays a list of calls: each line with its answer, then the serial order, the items and the buffer.
 
 mod answers;

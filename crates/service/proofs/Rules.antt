@@ -1,6 +1,6 @@
 -- What an accepted call and a rejected certification tell of the tests.
 use Rattle.std.proofs.Common.{◌≡◌, ℕ, ◌<◌, Bool, true, false, cond, not, ltb, ◌⊎◌, [], ◌∷◌, Some, None, Option, sym, refl, subst, inl, inr, arith}
-use Rattle.std.proofs.lemmas.Bool.{both_ways, not_false, ltb-false}
+use Rattle.std.proofs.lemmas.Bool.{both_ways, not-false, ltb-false}
 use Rattle.service.specs.declared.refusals.Refusal.{Refusal}
 use Rattle.service.specs.declared.refusals.Refusal.TheVariants.{UnknownTool, WrongState}
 use Rattle.service.specs.declared.calls.Call.{Call}
@@ -73,4 +73,4 @@ rejected s c r h f = go (ltb 15 (tool_of c)) refl (not (allowed c (seat s (tool_
         → (tool_of c < 16) × ((seat s (tool_of c)).phase ≡ Closed)
     go true p b q e = absurd (plain UnknownTool refl (same_refusal UnknownTool r e))
     go false p true q e = absurd (plain WrongState refl (same_refusal WrongState r e))
-    go false p false q e = (tool_below (tool_of c) p, closed (not_false (allowed c (seat s (tool_of c)).phase) q) (mild s (seat s (tool_of c)) c) e)
+    go false p false q e = (tool_below (tool_of c) p, closed (not-false (allowed c (seat s (tool_of c)).phase) q) (mild s (seat s (tool_of c)) c) e)

@@ -1,7 +1,7 @@
 -- Every state that start and the calls reach is sound.
 use Rattle.std.proofs.Common.{◌≡◌, ℕ, ◌+◌, ◌/◌, ◌%◌, ◌<◌, ◌≤◌, Bool, true, false, cond, not, ◌&&◌, ◌||◌, leb, ◌⊎◌, List, [], ◌∷◌, length, get_or, set, Some, None, Option, sym, refl, ap, ◌∙◌, subst, inl, inr, arith, length-set}
 use lib.ListN.{get_or-replicate}
-use Rattle.std.proofs.lemmas.Bool.{both_ways, not_false, or_cases}
+use Rattle.std.proofs.lemmas.Bool.{both_ways, not-false, or_cases}
 use Rattle.store.specs.declared.Version.{Version}
 use Rattle.queue.specs.Tokens.{Tells, place, remove, has, ascending}
 use Rattle.queue.proofs.Contents.{length_place, length_remove, has_placed, has_new, has_left}
@@ -233,7 +233,7 @@ module _ (s : State) (k : Sound s) where
           keep_w j n = has_shrunk write_tells s.writes (is_written e) i (seat s t).stamp j n
 
   in_phase : (t : ℕ) (p : Phase) → not (is (seat s t).phase p) ≡ false → (seat s t).phase ≡ p
-  in_phase t p h = is_true (seat s t).phase p (not_false (is (seat s t).phase p) h)
+  in_phase t p h = is_true (seat s t).phase p (not-false (is (seat s t).phase p) h)
 
   pub sound_next : (c : Call) → Clear (rules s c) → Sound (next s (seat s (tool_of c)) c)
   sound_next (Begin t) r = sound_begin t (tool_below t r.0) (in_phase t Idle r.1.0)
@@ -251,7 +251,7 @@ module _ (s : State) (k : Sound s) where
   sound_next (Certify t i) r = sound_certify t (tool_below t r.0) i (found i (find i (seat s t).entries) r.1.1.0)
       (stamped_at (seat s t).phase Closed (in_phase t Closed r.1.0) tt) r.1.1.1.0
   sound_next (Commit t) r = sound_commit t (tool_below t r.0) (in_phase t Closed r.1.0)
-  sound_next (Abort t) r = sound_abort t (tool_below t r.0) (go (or_cases (is (seat s t).phase Open) (is (seat s t).phase Closed || is (seat s t).phase Failed) (not_false (is (seat s t).phase Open || (is (seat s t).phase Closed || is (seat s t).phase Failed)) r.1.0)))
+  sound_next (Abort t) r = sound_abort t (tool_below t r.0) (go (or_cases (is (seat s t).phase Open) (is (seat s t).phase Closed || is (seat s t).phase Failed) (not-false (is (seat s t).phase Open || (is (seat s t).phase Closed || is (seat s t).phase Failed)) r.1.0)))
     where
       go : (is (seat s t).phase Open ≡ true) ⊎ ((is (seat s t).phase Closed || is (seat s t).phase Failed) ≡ true) → ((seat s t).phase ≡ Open) ⊎ Stamped (seat s t).phase
       go (inl h) = inl (is_true (seat s t).phase Open h)
@@ -261,8 +261,8 @@ module _ (s : State) (k : Sound s) where
           later (inl q) = stamped_at (seat s t).phase Closed (is_true (seat s t).phase Closed q) tt
           later (inr q) = stamped_at (seat s t).phase Failed (is_true (seat s t).phase Failed q) tt
   sound_next (Settle t i) r = sound_settle t (tool_below t r.0) i (found i (find i (seat s t).entries) r.1.1.0)
-      (go (or_cases (is (seat s t).phase Committed) (is (seat s t).phase Aborting) (not_false (is (seat s t).phase Committed || is (seat s t).phase Aborting) r.1.0)))
-      (not_false (is_held (entry (seat s t) i).stand) r.1.1.1.0)
+      (go (or_cases (is (seat s t).phase Committed) (is (seat s t).phase Aborting) (not-false (is (seat s t).phase Committed || is (seat s t).phase Aborting) r.1.0)))
+      (not-false (is_held (entry (seat s t) i).stand) r.1.1.1.0)
     where
       go : (is (seat s t).phase Committed ≡ true) ⊎ (is (seat s t).phase Aborting ≡ true) → Stamped (seat s t).phase
       go (inl h) = stamped_at (seat s t).phase Committed (is_true (seat s t).phase Committed h) tt

@@ -1,3 +1,4 @@
+#![tactic(auto)]
 // The parameter service: transactions over the items of one store, certified by stamps.
 mod calls;
 mod cases;

@@ -1,3 +1,4 @@
+#![tactic(auto)]
 // What the service keeps of its parameters, and what a store of them has to show.
 ghost use Rattle.std.specs.Prelude.{◌≡◌, ◌≤◌, List, length, set, slice_set};
 ghost use Rattle.std.specs.List.{slice_get};

@@ -1,3 +1,4 @@
+#![tactic(auto)]
 // Runs of the whole service over its stores: the edges, and transactions that meet.
 #[cfg(test)]
 mod edges;

@@ -1,3 +1,4 @@
+#![tactic(auto)]
 // An auto-tuner over a table of parameters. It moves a gain towards what it measures, in transactions that it holds; at
 // a rejection it begins again. An operator's tool changes a limit meanwhile, by single calls, so that one rejection happens.
 use held::{Closed, Grant, Open, Uncertified};
