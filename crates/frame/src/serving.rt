@@ -15,7 +15,7 @@ pub fn serve<S: Store>(
     frame: &[u8],
     reply: &mut [u8],
 ) -> Result<usize, Fault>
-    ensures { Serves versions service.old reply.old result service.new reply.new (accepted frame.now reply.old) }
+    ensures { Serves S.versions service.old reply.old result service.new reply.new (accepted frame.now reply.old) }
 {
     let call = read_request(frame)?;
     if reply.len() < LONGEST_REPLY {

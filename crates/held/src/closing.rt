@@ -11,7 +11,7 @@ use store::{Stamp, Store};
 
 // Whether the tool's transaction is still this one; a failed one may be aborted.
 fn is_abortable<S: Store>(service: &Service<S>, tool: u8, stamp: Stamp) -> bool
-    ensures { result ≡ is_abortable (state_of versions service.now) tool stamp }
+    ensures { result ≡ is_abortable (state_of S.versions service.now) tool stamp }
 {
     service.is_closed(tool, stamp) || service.is_failed(tool, stamp)
 }
@@ -52,7 +52,7 @@ impl Closed {
 
     // Certifies every entry that holds no token yet. At a rejection it aborts, settles everything and answers that.
     pub fn certify_all<S: Store>(self, service: &mut Service<S>) -> Result<Grant, Uncertified>
-        ensures { Performs versions service.old (certifies_all self) result service.new }
+        ensures { Performs S.versions service.old (certifies_all self) result service.new }
     {
         let Closed { tool, stamp } = self;
         if !service.is_closed(tool, stamp) {
@@ -67,7 +67,7 @@ impl Closed {
 
     // Gives the transaction up; its tokens stand until they are settled.
     pub fn abort<S: Store>(self, service: &mut Service<S>) -> Result<(), (Refusal, Closed)>
-        ensures { Performs versions service.old (aborts_closed self) result service.new }
+        ensures { Performs S.versions service.old (aborts_closed self) result service.new }
     {
         let Closed { tool, stamp } = self;
         if !is_abortable(service, tool, stamp) {

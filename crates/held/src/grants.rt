@@ -24,7 +24,7 @@ impl Grant {
 
     // Makes the call that ends the transaction and settles everything.
     fn spend<S: Store>(self, service: &mut Service<S>, call: Call) -> Result<(), (Refusal, Grant)>
-        ensures { Performs versions service.old (spends self call) result service.new }
+        ensures { Performs S.versions service.old (spends self call) result service.new }
     {
         let Grant { tool, stamp } = self;
         if !service.is_closed(tool, stamp) {
@@ -38,7 +38,7 @@ impl Grant {
 
     // Commits the transaction and settles everything.
     pub fn commit_all<S: Store>(self, service: &mut Service<S>) -> Result<(), (Refusal, Grant)>
-        ensures { Performs versions service.old (commits_all self) result service.new }
+        ensures { Performs S.versions service.old (commits_all self) result service.new }
     {
         let tool = self.tool;
         self.spend(service, Call::Commit { tool })
@@ -46,7 +46,7 @@ impl Grant {
 
     // Aborts the transaction and settles everything.
     pub fn abort_all<S: Store>(self, service: &mut Service<S>) -> Result<(), (Refusal, Grant)>
-        ensures { Performs versions service.old (aborts_all self) result service.new }
+        ensures { Performs S.versions service.old (aborts_all self) result service.new }
     {
         let tool = self.tool;
         self.spend(service, Call::Abort { tool })
@@ -54,7 +54,7 @@ impl Grant {
 
     // Lets the transaction be, once none of its tokens stands. It makes no call.
     pub fn give_up<S: Store>(self, service: &Service<S>) -> Result<(), (Refusal, Grant)>
-        ensures { result ≡ given_up self (state_of versions service.now) }
+        ensures { result ≡ given_up self (state_of S.versions service.now) }
     {
         let Grant { tool, stamp } = self;
         if service.has_tokens(tool, stamp) {

@@ -11,7 +11,7 @@ use store::{Item, Store, Value};
 impl Open {
     // An idle tool opens a transaction, to be held.
     pub fn begin<S: Store>(service: &mut Service<S>, tool: u8) -> Result<Open, Refusal>
-        ensures makes { Makes versions service.old (Begin tool) (begun result) service.new }
+        ensures makes { Makes S.versions service.old (Begin tool) (begun result) service.new }
         ensures held { BegunFor tool result }
     {
         service.begin(tool)?;
@@ -20,7 +20,7 @@ impl Open {
 
     // The item's current value; a first use reads it from the store.
     pub fn read<S: Store>(&self, service: &mut Service<S>, item: Item) -> Result<Value, Refusal>
-        ensures { Makes versions service.old (Read self.now.tool item) (valued result) service.new }
+        ensures { Makes S.versions service.old (Read self.now.tool item) (valued result) service.new }
     {
         service.read(self.tool, item)
     }
@@ -32,7 +32,7 @@ impl Open {
         item: Item,
         value: Value,
     ) -> Result<(), Refusal>
-        ensures { Makes versions service.old (Write self.now.tool item value) (done result) service.new }
+        ensures { Makes S.versions service.old (Write self.now.tool item value) (done result) service.new }
     {
         service.write(self.tool, item, value)
     }
@@ -43,7 +43,7 @@ impl Open {
         service: &mut Service<S>,
         tick: u64,
     ) -> Result<Closed, (Refusal, Open)>
-        ensures makes { Makes versions service.old (Close self.tool tick) (closed_at result) service.new }
+        ensures makes { Makes S.versions service.old (Close self.tool tick) (closed_at result) service.new }
         ensures held { ClosedFrom self result }
     {
         let Open { tool } = self;
@@ -55,7 +55,7 @@ impl Open {
 
     // Gives the transaction up.
     pub fn abort<S: Store>(self, service: &mut Service<S>) -> Result<(), (Refusal, Open)>
-        ensures makes { Makes versions service.old (Abort self.tool) (ended result) service.new }
+        ensures makes { Makes S.versions service.old (Abort self.tool) (ended result) service.new }
         ensures back { Back self result }
     {
         let Open { tool } = self;

@@ -11,7 +11,7 @@ use store::{Item, Store};
 
 // Certifies these items, up to the first refusal.
 fn certify_each<S: Store>(service: &mut Service<S>, tool: u8, items: &[Item]) -> Option<Refusal>
-    ensures { MadeUpTo versions service.old (map (Certify tool) items.now) result service.new }
+    ensures { MadeUpTo S.versions service.old (map (Certify tool) items.now) result service.new }
 {
     for item in items {
         if let Err(refusal) = service.certify(tool, *item) {
@@ -23,14 +23,14 @@ fn certify_each<S: Store>(service: &mut Service<S>, tool: u8, items: &[Item]) ->
 
 // Certifies the entries without a token, up to the first refusal.
 pub(crate) fn certify_bare<S: Store>(service: &mut Service<S>, tool: u8) -> Option<Refusal>
-    ensures { MadeUpTo versions service.old (certifications tool (state_of versions service.old)) result service.new }
+    ensures { MadeUpTo S.versions service.old (certifications tool (state_of S.versions service.old)) result service.new }
 {
     let bare = service.bare_items(tool);
     certify_each(service, tool, bare.as_slice())
 }
 
 fn settle_each<S: Store>(service: &mut Service<S>, tool: u8, items: &[Item])
-    ensures { Made versions service.old (map (Settle tool) items.now) service.new }
+    ensures { Made S.versions service.old (map (Settle tool) items.now) service.new }
 {
     for item in items {
         let _ = service.settle(tool, *item);
@@ -39,7 +39,7 @@ fn settle_each<S: Store>(service: &mut Service<S>, tool: u8, items: &[Item])
 
 // Settles the entries that hold a token.
 fn settle_held<S: Store>(service: &mut Service<S>, tool: u8)
-    ensures { Made versions service.old (settlements tool (state_of versions service.old)) service.new }
+    ensures { Made S.versions service.old (settlements tool (state_of S.versions service.old)) service.new }
 {
     let held = service.held_items(tool);
     settle_each(service, tool, held.as_slice());
@@ -47,8 +47,8 @@ fn settle_held<S: Store>(service: &mut Service<S>, tool: u8)
 
 // The call that ends the transaction, and then the settlement of everything.
 pub(crate) fn finish<S: Store>(service: &mut Service<S>, call: Call) -> Result<(), Refusal>
-    ensures made { Made versions service.old (settling call (state_of versions service.old)) service.new }
-    ensures answer { result ≡ without (step (state_of versions service.old) call).0 }
+    ensures made { Made S.versions service.old (settling call (state_of S.versions service.old)) service.new }
+    ensures answer { result ≡ without (step (state_of S.versions service.old) call).0 }
 {
     service.call(call)?;
     settle_held(service, call.tool());
@@ -57,7 +57,7 @@ pub(crate) fn finish<S: Store>(service: &mut Service<S>, call: Call) -> Result<(
 
 // Aborts the transaction and settles everything.
 pub(crate) fn undo<S: Store>(service: &mut Service<S>, tool: u8)
-    ensures { Made versions service.old (settling (Abort tool) (state_of versions service.old)) service.new }
+    ensures { Made S.versions service.old (settling (Abort tool) (state_of S.versions service.old)) service.new }
 {
     let _ = finish(service, Call::Abort { tool });
 }

@@ -22,7 +22,7 @@ fn places(calls: &[Call], answers: &[Outcome]) -> usize
 
 // Makes one call and writes its answer down.
 fn make<S: Store>(service: &mut Service<S>, call: Call, answer: &mut Outcome)
-    ensures { Does (state_of versions service.old) call answer.new (state_of versions service.new) }
+    ensures { Does (state_of S.versions service.old) call answer.new (state_of S.versions service.new) }
 {
     *answer = service.call(call);
 }
@@ -32,7 +32,7 @@ fn make<S: Store>(service: &mut Service<S>, call: Call, answer: &mut Outcome)
 pub fn resume<S: Store>(service: &mut Service<S>, calls: &[Call], answers: &mut [Outcome]) -> usize
     ensures count { result ≡ min (length calls.now) (length answers.old) }
     ensures rest { drop result answers.new ≡ drop result answers.old }
-    ensures runs { (vs : List Version) (h : History) → Run vs h (state_of versions service.old) → Runs vs (onward calls.now answers.new h) (state_of versions service.new) }
+    ensures runs { (vs : List Version) (h : History) → Run vs h (state_of S.versions service.old) → Runs vs (onward calls.now answers.new h) (state_of S.versions service.new) }
 {
     let count = places(calls, answers);
     for i in 0..count {
@@ -43,14 +43,14 @@ pub fn resume<S: Store>(service: &mut Service<S>, calls: &[Call], answers: &mut 
 
 // A service that has served no call yet.
 fn begin<S: Store>(store: S) -> Service<S>
-    ensures { Run (versions store) [] (state_of versions result) }
+    ensures { Run (S.versions store) [] (state_of S.versions result) }
 {
     Service::start(store)
 }
 
 // Every call; answers without a call stay as they were.
 fn make_all<S: Store>(service: &mut Service<S>, calls: &[Call], answers: &mut [Outcome])
-    ensures runs { (vs : List Version) (h : History) → Run vs h (state_of versions service.old) → Runs vs (onward calls.now answers.new h) (state_of versions service.new) }
+    ensures runs { (vs : List Version) (h : History) → Run vs h (state_of S.versions service.old) → Runs vs (onward calls.now answers.new h) (state_of S.versions service.new) }
     ensures rest { drop (length calls.now) answers.new ≡ drop (length calls.now) answers.old }
 {
     let _ = resume(service, calls, answers);
@@ -58,7 +58,7 @@ fn make_all<S: Store>(service: &mut Service<S>, calls: &[Call], answers: &mut [O
 
 // The same from start on.
 pub fn run<S: Store>(store: S, calls: &[Call], answers: &mut [Outcome]) -> Service<S>
-    ensures runs { Runs (versions store) (onward calls.now answers.new []) (state_of versions result) }
+    ensures runs { Runs (S.versions store) (onward calls.now answers.new []) (state_of S.versions result) }
     ensures rest { drop (length calls.now) answers.new ≡ drop (length calls.now) answers.old }
 {
     let mut service = begin(store);

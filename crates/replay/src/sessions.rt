@@ -49,7 +49,7 @@ impl<A: Store + Shown, B: Store + Shown> Shown for Pair<A, B> {
 
 // Makes one call: the run that led to the service goes on by it.
 fn made<S: Store>(service: &mut Service<S>, call: Call) -> Outcome
-    ensures { (vs : List Start) (h : History) → Run vs h (state_of versions service.old) → Runs vs ((call, result) ∷ h) (state_of versions service.new) }
+    ensures { (vs : List Start) (h : History) → Run vs h (state_of S.versions service.old) → Runs vs ((call, result) ∷ h) (state_of S.versions service.new) }
 {
     let calls = [call];
     let mut answers = [Err(Refusal::WrongState)];

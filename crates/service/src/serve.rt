@@ -18,7 +18,7 @@ use store::{Item, Stamp, Store, Value, Version};
 
 // Puts a changed version, if there is one.
 fn put_change<S: Store>(store: &mut S, change: Option<Change>)
-    ensures puts { versions store.new ≡ changed change (versions store.old) }
+    ensures puts { S.versions store.new ≡ changed change (S.versions store.old) }
     ensures kept { change ≡ None → store.new ≡ store.old }
 {
     if let Some(change) = change {
@@ -30,7 +30,7 @@ impl<S: Store> Service<S> {
     // All tools idle and no tokens; the next stamps lie above every stamp in the store.
     pub fn start(store: S) -> Service<S>
         ensures store { result.store ≡ store }
-        ensures starts { state_of versions result ≡ start (versions store) }
+        ensures starts { state_of S.versions result ≡ start (S.versions store) }
     {
         let mut largest = 0;
         for item in 0..store.count() {
@@ -46,7 +46,7 @@ impl<S: Store> Service<S> {
 
     // The version of the item that the call names.
     fn find(&self, call: Call) -> Option<Version>
-        ensures { Finds (versions self.now.store) (item_of call) result }
+        ensures { Finds (S.versions self.now.store) (item_of call) result }
     {
         match call.item() {
             Some(item) => self.store.get(item),
@@ -56,7 +56,7 @@ impl<S: Store> Service<S> {
 
     // Any call.
     pub fn call(&mut self, call: Call) -> Result<Answer, Refusal>
-        ensures { Makes versions self.old call result self.new }
+        ensures { Makes S.versions self.old call result self.new }
     {
         let found = self.find(call);
         let effect = self.desk.serve(call, found)?;
@@ -66,7 +66,7 @@ impl<S: Store> Service<S> {
 
     // A call that answers nothing but that it is done.
     fn finish(&mut self, call: Call) -> Result<(), Refusal>
-        ensures { AnswersDone call → Makes versions self.old call (done result) self.new }
+        ensures { AnswersDone call → Makes S.versions self.old call (done result) self.new }
     {
         match self.call(call) {
             Ok(_) => Ok(()),
@@ -76,14 +76,14 @@ impl<S: Store> Service<S> {
 
     // An idle tool opens a transaction without entries.
     pub fn begin(&mut self, tool: u8) -> Result<(), Refusal>
-        ensures { Makes versions self.old (Begin tool) (done result) self.new }
+        ensures { Makes S.versions self.old (Begin tool) (done result) self.new }
     {
         self.finish(Call::Begin { tool })
     }
 
     // The item's current value in the open transaction; a first use reads it from the store.
     pub fn read(&mut self, tool: u8, item: Item) -> Result<Value, Refusal>
-        ensures { Makes versions self.old (Read tool item) (valued result) self.new }
+        ensures { Makes S.versions self.old (Read tool item) (valued result) self.new }
     {
         match self.call(Call::Read { tool, item }) {
             Ok(Answer::Value(value)) => Ok(value),
@@ -94,14 +94,14 @@ impl<S: Store> Service<S> {
 
     // Sets the item's current value in the open transaction.
     pub fn write(&mut self, tool: u8, item: Item, value: Value) -> Result<(), Refusal>
-        ensures { Makes versions self.old (Write tool item value) (done result) self.new }
+        ensures { Makes S.versions self.old (Write tool item value) (done result) self.new }
     {
         self.finish(Call::Write { tool, item, value })
     }
 
     // Ends the reads and writes and gives the transaction its stamp.
     pub fn close(&mut self, tool: u8, tick: u64) -> Result<Stamp, Refusal>
-        ensures { Makes versions self.old (Close tool tick) (stamped result) self.new }
+        ensures { Makes S.versions self.old (Close tool tick) (stamped result) self.new }
     {
         match self.call(Call::Close { tool, tick }) {
             Ok(Answer::Stamp(stamp)) => Ok(stamp),
@@ -112,28 +112,28 @@ impl<S: Store> Service<S> {
 
     // Certifies one entry of the closed transaction; a rejection leaves it only abort.
     pub fn certify(&mut self, tool: u8, item: Item) -> Result<(), Refusal>
-        ensures { Makes versions self.old (Certify tool item) (done result) self.new }
+        ensures { Makes S.versions self.old (Certify tool item) (done result) self.new }
     {
         self.finish(Call::Certify { tool, item })
     }
 
     // Commits the closed transaction, all of whose entries hold a token.
     pub fn commit(&mut self, tool: u8) -> Result<(), Refusal>
-        ensures { Makes versions self.old (Commit tool) (done result) self.new }
+        ensures { Makes S.versions self.old (Commit tool) (done result) self.new }
     {
         self.finish(Call::Commit { tool })
     }
 
     // Gives an open, closed or failed transaction up; its tokens stand until they are settled.
     pub fn abort(&mut self, tool: u8) -> Result<(), Refusal>
-        ensures { Makes versions self.old (Abort tool) (done result) self.new }
+        ensures { Makes S.versions self.old (Abort tool) (done result) self.new }
     {
         self.finish(Call::Abort { tool })
     }
 
     // Takes an entry's tokens out, and puts what a committed one leaves.
     pub fn settle(&mut self, tool: u8, item: Item) -> Result<(), Refusal>
-        ensures { Makes versions self.old (Settle tool item) (done result) self.new }
+        ensures { Makes S.versions self.old (Settle tool item) (done result) self.new }
     {
         self.finish(Call::Settle { tool, item })
     }
@@ -147,7 +147,7 @@ impl<S: Store> Service<S> {
 
     // The item's version and how many tokens it has.
     pub fn peek(&self, item: Item) -> Result<Look, Refusal>
-        ensures { result ≡ looked (state_of versions self.now) item }
+        ensures { result ≡ looked (state_of S.versions self.now) item }
     {
         match self.store.get(item) {
             Some(version) => {

@@ -2,10 +2,9 @@
 ghost use Rattle.service.specs.Desks.{Lawful};
 
 use crate::desks::Desk;
-use store::Store;
 
 #[derive(Drop)]
-pub struct Service<S: Store> {
+pub struct Service<S> {
     pub(crate) store: S,
     pub(crate) desk: Desk,
     ghost lawful: { Lawful desk },

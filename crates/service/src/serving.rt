@@ -44,7 +44,7 @@ const NEVER: Version = Version {
 };
 
 fn stamp_of<T: Token + Drop>(token: Option<T>) -> Option<Stamp>
-    ensures { result ≡ option_map tells.stamp token }
+    ensures { result ≡ option_map T.tells.stamp token }
 {
     match token {
         Some(token) => Some(token.stamp()),

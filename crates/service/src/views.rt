@@ -114,7 +114,7 @@ impl Owned for WriteToken {
 }
 
 fn any_of<T: Owned>(tokens: &[T], tool: u8, stamp: Stamp) -> bool
-    ensures { result ≡ any_of (owned tool stamp) tokens.now }
+    ensures { result ≡ any_of (T.owned tool stamp) tokens.now }
 {
     for token in tokens {
         if token.is_of(tool, stamp) {
@@ -140,7 +140,7 @@ impl Desk {
 impl<S: Store> Service<S> {
     // Whether the tool's transaction is closed under that stamp.
     pub fn is_closed(&self, tool: u8, stamp: Stamp) -> bool
-        ensures { result ≡ is_under Closed (state_of versions self.now) tool stamp }
+        ensures { result ≡ is_under Closed (state_of S.versions self.now) tool stamp }
     {
         match self.desk.tool(tool) {
             Some(own) => own.is_closed(stamp),
@@ -150,7 +150,7 @@ impl<S: Store> Service<S> {
 
     // Whether the tool's transaction, closed under that stamp, was rejected.
     pub fn is_failed(&self, tool: u8, stamp: Stamp) -> bool
-        ensures { result ≡ is_under Failed (state_of versions self.now) tool stamp }
+        ensures { result ≡ is_under Failed (state_of S.versions self.now) tool stamp }
     {
         match self.desk.tool(tool) {
             Some(own) => own.is_failed(stamp),
@@ -159,7 +159,7 @@ impl<S: Store> Service<S> {
     }
 
     fn items(&self, tool: u8, held: bool) -> ItemList
-        ensures { items_of result ≡ items_that held (seat (state_of versions self.now) tool).entries }
+        ensures { items_of result ≡ items_that held (seat (state_of S.versions self.now) tool).entries }
     {
         match self.desk.tool(tool) {
             Some(own) => own.items(held),
@@ -169,21 +169,21 @@ impl<S: Store> Service<S> {
 
     // The items of the tool's entries that hold a token.
     pub fn held_items(&self, tool: u8) -> ItemList
-        ensures { items_of result ≡ held_items (state_of versions self.now) tool }
+        ensures { items_of result ≡ held_items (state_of S.versions self.now) tool }
     {
         self.items(tool, true)
     }
 
     // The items of the tool's entries that hold none.
     pub fn bare_items(&self, tool: u8) -> ItemList
-        ensures { items_of result ≡ bare_items (state_of versions self.now) tool }
+        ensures { items_of result ≡ bare_items (state_of S.versions self.now) tool }
     {
         self.items(tool, false)
     }
 
     // Whether a token of that tool and stamp stands in a queue.
     pub fn has_tokens(&self, tool: u8, stamp: Stamp) -> bool
-        ensures { result ≡ tokens_stand (state_of versions self.now) tool stamp }
+        ensures { result ≡ tokens_stand (state_of S.versions self.now) tool stamp }
     {
         any_of(self.desk.reads.tokens(), tool, stamp)
             || any_of(self.desk.writes.tokens(), tool, stamp)

@@ -1,6 +1,6 @@
 use Rattle.std.proofs.Common.{◌≡◌, ℕ, List, get_or, set, sym, refl, ap, ◌∙◌}
 use Rattle.std.proofs.lemmas.List.{set_past, set-get_or, get_or-set_same}
-use Rattle.std.proofs.lemmas.Bool.{false≢true}
+use Rattle.std.proofs.lemmas.Bool.{false≢true, and_parts, and_from, eqb-true, eq-eqb}
 use Rattle.store.specs.declared.Version.{Version}
 use Rattle.service.specs.Entries.{settled_version}
 use Rattle.service.specs.Service.{version}
@@ -21,9 +21,10 @@ returns-in_default c = record {
 pub returns-then-eq : goal.returns-then-eq
 returns-then-eq c = record {
   value = λ vs f.
-      let h = c.if-eq.ensures in
+      let h = and_parts _ _ (sym c.if-eq.ensures) in
+      let k = and_parts _ _ h.1 in
       let g = (got vs c.args.item c.in-Some.before (f ∙ c.in-Some.is)).1 in
-      let e : c.settled-after.result ≡ c.in-Some.before = same_version c.settled-after.result c.in-Some.before (h.0.0 refl) (h.1.0.0 refl) (h.1.1.0 refl) in
+      let e : c.settled-after.result ≡ c.in-Some.before = same_version c.settled-after.result c.in-Some.before (eqb-true _ _ h.0) (eqb-true _ _ k.0) (eqb-true _ _ k.1) in
       sym (set-get_or vs c.args.item (record { value = 0; twrite = 0; tread = 0 }))
       ∙ ap (set vs c.args.item) (g ∙ (sym e ∙ (c.settled-after.ensures ∙ ap (settled_version c.args.entry c.args.stamp) (sym g))));
   quiet = λ _ _ _. refl;
@@ -40,8 +41,7 @@ returns c = record {
       sym (get_or-set_same vs c.args.item c.settled-after.result (record { value = 0; twrite = 0; tread = 0 }) g.0)
       ∙ (ap (λ (us : List Version). version us c.args.item) q ∙ g.1)
       in
-      absurd (c.if-eq.ensures
-      (λ d. false≢true (d.1 (ap (λ (v : Version). v.value) e)))
-      (λ d. false≢true (d.1 (ap (λ (v : Version). v.twrite) e)))
-      (λ d. false≢true (d.1 (ap (λ (v : Version). v.tread) e))));
+      absurd (false≢true (c.if-eq.ensures
+      ∙ and_from _ _ (eq-eqb _ _ (ap (λ (v : Version). v.value) e))
+      (and_from _ _ (eq-eqb _ _ (ap (λ (v : Version). v.twrite) e)) (eq-eqb _ _ (ap (λ (v : Version). v.tread) e)))));
 }

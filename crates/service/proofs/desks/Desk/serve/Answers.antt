@@ -11,36 +11,36 @@ returns-in_default c =
     let wrong = serves_wrong c.args.self.now c.args.call c.tool-tool.result c.index-self-t.result e (omega arith) (omega arith) c.args.found h in
     record { serves = wrong; quiet = λ _ _ _. refl }
 
-pub returns-in_default·2 : goal.returns-in_default·2
-returns-in_default·2 c =
+pub returns-in_default-2 : goal.returns-in_default-2
+returns-in_default-2 c =
     let e = c.tool-tool.ensures in
     let h : allowed c.args.call (get_or c.args.self.now.tools c.tool-tool.result c.index-self-t.result).phase ≡ false = search rules in
     let wrong = serves_wrong c.args.self.now c.args.call c.tool-tool.result c.index-self-t.result e (omega arith) (omega arith) c.args.found h in
     record { serves = wrong; quiet = λ _ _ _. refl }
 
-pub returns-in_default·3 : goal.returns-in_default·3
-returns-in_default·3 c =
+pub returns-in_default-3 : goal.returns-in_default-3
+returns-in_default-3 c =
     let e = c.tool-tool.ensures in
     let h : allowed c.args.call (get_or c.args.self.now.tools c.tool-tool.result c.index-self-t.result).phase ≡ false = search rules in
     let wrong = serves_wrong c.args.self.now c.args.call c.tool-tool.result c.index-self-t.result e (omega arith) (omega arith) c.args.found h in
     record { serves = wrong; quiet = λ _ _ _. refl }
 
-pub returns-in_default·4 : goal.returns-in_default·4
-returns-in_default·4 c =
+pub returns-in_default-4 : goal.returns-in_default-4
+returns-in_default-4 c =
     let e = c.tool-tool.ensures in
     let h : allowed c.args.call (get_or c.args.self.now.tools c.tool-tool.result c.index-self-t.result).phase ≡ false = search rules in
     let wrong = serves_wrong c.args.self.now c.args.call c.tool-tool.result c.index-self-t.result e (omega arith) (omega arith) c.args.found h in
     record { serves = wrong; quiet = λ _ _ _. refl }
 
-pub returns-in_default·5 : goal.returns-in_default·5
-returns-in_default·5 c =
+pub returns-in_default-5 : goal.returns-in_default-5
+returns-in_default-5 c =
     let e = c.tool-tool.ensures in
     let h : allowed c.args.call (get_or c.args.self.now.tools c.tool-tool.result c.index-self-t.result).phase ≡ false = search rules in
     let wrong = serves_wrong c.args.self.now c.args.call c.tool-tool.result c.index-self-t.result e (omega arith) (omega arith) c.args.found h in
     record { serves = wrong; quiet = λ _ _ _. refl }
 
-pub returns-in_default·6 : goal.returns-in_default·6
-returns-in_default·6 c =
+pub returns-in_default-6 : goal.returns-in_default-6
+returns-in_default-6 c =
     let e = c.tool-tool.ensures in
     let h : allowed c.args.call (get_or c.args.self.now.tools c.tool-tool.result c.index-self-t.result).phase ≡ false = search rules in
     let wrong = serves_wrong c.args.self.now c.args.call c.tool-tool.result c.index-self-t.result e (omega arith) (omega arith) c.args.found h in

@@ -28,7 +28,7 @@ pub invariant_of-result : goal.invariant_of-result
 invariant_of-result g c =
     let vs = g.S.Store.versions c.args.store in
     let n = c.count-item-end.ensures in
-    (lawful_start vs c.new.result (c.new.ensures vs (largest_all vs c.loop-item.item c.loop-item.largest (omega arith) c.loop-item.invariant.1)), tt)
+    record { lawful = lawful_start vs c.new.result (c.new.ensures vs (largest_all vs c.loop-item.item c.loop-item.largest (omega arith) c.loop-item.invariant.1)) }
 
 pub returns : goal.returns
 returns g c =
