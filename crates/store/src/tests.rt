@@ -65,12 +65,13 @@ fn table_bytes(rt: HostRuntime) {
     assert_eq!(rt; table.bytes()[19], 9);
     assert_eq!(rt;
         &table.bytes()[20..40],
-        &[
+        [
             1, 2, 3, 4, 0x11, 0x12, 0x13, 0x14, 0x15, 0x16, 0x17, 0x18, 0x21, 0x22, 0x23, 0x24,
             0x25, 0x26, 0x27, 0x28,
         ]
+        .as_slice()
     );
-    assert_eq!(rt; &table.bytes()[40..62], &[9; 22]);
+    assert_eq!(rt; &table.bytes()[40..62], [9; 22].as_slice());
 }
 
 #[test]
@@ -222,8 +223,8 @@ fn log_bytes(rt: HostRuntime) {
         },
     );
     assert!(rt; log.bytes().len() == 60);
-    assert_eq!(rt; &log.bytes()[0..25], &record(0, 1));
-    assert_eq!(rt; &log.bytes()[25..50], &record(0, 2));
+    assert_eq!(rt; &log.bytes()[0..25], record(0, 1).as_slice());
+    assert_eq!(rt; &log.bytes()[25..50], record(0, 2).as_slice());
     log.put(
         0,
         Version {
@@ -233,9 +234,9 @@ fn log_bytes(rt: HostRuntime) {
         },
     );
     assert!(rt; log.bytes().len() == 60);
-    assert_eq!(rt; &log.bytes()[0..25], &record(0, 2));
-    assert_eq!(rt; &log.bytes()[25..50], &record(0, 3));
-    assert_eq!(rt; &log.bytes()[50..60], &[0; 10]);
+    assert_eq!(rt; &log.bytes()[0..25], record(0, 2).as_slice());
+    assert_eq!(rt; &log.bytes()[25..50], record(0, 3).as_slice());
+    assert_eq!(rt; &log.bytes()[50..60], [0; 10].as_slice());
 }
 
 fn valued(value: u32) -> Option<Version> {
