@@ -22,7 +22,7 @@ returns c =
     c.split_at.ensures.back ∙ (ap (drop c.width-width.result) rest ∙ (ap (λ n. drop n (drop 3 frame)) w ∙ drop-drop (width k) 3 frame)) in
     let sized : number_in (part 1 2 frame) ≡ width k = length_bytes frame three ∙ (sym c.from_be_bytes.ensures ∙ (c.if-from_be_bytes-width.false ∙ w)) in
     let is = found k frame long (c.if-tag.false ∙ c.tag.ensures) sized in
-    let ln = c.split_at.ensures.front-len in
+    let ln = c.split_at.ensures.front_len in
     record {
       kind = c.new.ensures.kind;
       content = content;
