@@ -7,7 +7,7 @@ use Rattle.held.proofs.steps.finish.Goals as goal
 
 pub returns-in_err-call : goal.returns-in_err-call
 returns-in_err-call g c =
-    let p = err_from_is_err_and c.from-residual.result c.from-residual.ensures.1 in
+    let p = err_from_is_err_and c.from_residual.result c.from_residual.ensures.1 in
     let m = c.in_err-call.ensures in
     record {
       made = not_settled g.S.Store.versions c.args.service.now c.call.new.self c.args.call _ m;
