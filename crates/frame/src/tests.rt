@@ -124,9 +124,10 @@ fn bytes_of_a_write(rt: HostRuntime) {
     assert_eq!(rt; write_request(request, &mut bytes), Ok(20));
     assert_eq!(rt;
         &bytes[0..22],
-        &[
+        [
             0x54, 0, 1, 2, 0x43, 0, 1, 3, 0x49, 0, 2, 1, 2, 0x56, 0, 4, 1, 2, 3, 4, 0xEE, 0xEE,
         ]
+        .as_slice()
     );
 }
 
@@ -134,9 +135,9 @@ fn worked<S: Store + Drop>(rt: &impl Abort, store: S) {
     let mut service = Service::start(store);
     let mut reply = [0xEE; 16];
     assert_eq!(rt; serve(&mut service, &READ, &mut reply), Ok(4));
-    assert_eq!(rt; &reply[0..5], &[0x41, 0, 1, 2, 0xEE]);
+    assert_eq!(rt; &reply[0..5], [0x41, 0, 1, 2, 0xEE].as_slice());
     assert_eq!(rt; serve(&mut service, &BEGIN, &mut reply), Ok(4));
-    assert_eq!(rt; &reply[0..5], &[0x41, 0, 1, 0, 0xEE]);
+    assert_eq!(rt; &reply[0..5], [0x41, 0, 1, 0, 0xEE].as_slice());
     // a fault reaches neither service nor buffer
     assert_eq!(rt;
         serve(&mut service, &READ[0..12], &mut reply[0..14]),
@@ -146,11 +147,11 @@ fn worked<S: Store + Drop>(rt: &impl Abort, store: S) {
         serve(&mut service, &READ, &mut reply[0..14]),
         Err(Fault::Room)
     );
-    assert_eq!(rt; &reply[0..5], &[0x41, 0, 1, 0, 0xEE]);
+    assert_eq!(rt; &reply[0..5], [0x41, 0, 1, 0, 0xEE].as_slice());
     assert_eq!(rt; serve(&mut service, &READ, &mut reply), Ok(11));
     assert_eq!(rt;
         &reply[0..12],
-        &[0x41, 0, 1, 0, 0x56, 0, 4, 0, 0, 1, 0x2C, 0xEE]
+        [0x41, 0, 1, 0, 0x56, 0, 4, 0, 0, 1, 0x2C, 0xEE].as_slice()
     );
     let read = Call::Read { tool: 2, item: 7 };
     assert_eq!(rt; read_reply(read, &reply[0..11]), Ok(Ok(Answer::Value(300))));
@@ -168,7 +169,7 @@ fn worked<S: Store + Drop>(rt: &impl Abort, store: S) {
         read_reply(read, &reply[0..4]),
         Ok(Err(Refusal::UnknownTool))
     );
-    assert_eq!(rt; &reply[0..5], &[0x41, 0, 1, 1, 0x56]);
+    assert_eq!(rt; &reply[0..5], [0x41, 0, 1, 1, 0x56].as_slice());
 }
 
 #[test]
@@ -192,11 +193,11 @@ fn replies(rt: HostRuntime) {
     let close = Call::Close { tool: 3, tick: 9 };
     let stamp = Ok(Answer::Stamp(0x0102030405060708));
     assert_eq!(rt; write_reply(stamp, &mut bytes[0..14]), Err(Fault::Room));
-    assert_eq!(rt; &bytes[0..16], &[0xEE; 16]);
+    assert_eq!(rt; &bytes[0..16], [0xEE; 16].as_slice());
     assert_eq!(rt; write_reply(stamp, &mut bytes), Ok(15));
     assert_eq!(rt;
         &bytes[0..16],
-        &[0x41, 0, 1, 0, 0x53, 0, 8, 1, 2, 3, 4, 5, 6, 7, 8, 0xEE]
+        [0x41, 0, 1, 0, 0x53, 0, 8, 1, 2, 3, 4, 5, 6, 7, 8, 0xEE].as_slice()
     );
     assert_eq!(rt; read_reply(close, &bytes[0..15]), Ok(stamp));
     for length in 0..15 {

@@ -282,16 +282,16 @@ fn elsewhere<S: Store + Drop, T: Store + Drop>(
 
 #[test]
 fn held_over_a_table(rt: HostRuntime) -> Result<(), Fail> {
-    commits(&rt, Table::open(&mut [0; 40], 2)).note("commits")?;
-    aborts(&rt, Table::open(&mut [0; 40], 2)).note("aborts")?;
-    is_rejected(&rt, Table::open(&mut [0; 40], 2)).note("is rejected")
+    commits(&rt, Table::open(&mut [0; 40], 2))?;
+    aborts(&rt, Table::open(&mut [0; 40], 2))?;
+    is_rejected(&rt, Table::open(&mut [0; 40], 2))
 }
 
 #[test]
 fn held_over_a_log(rt: HostRuntime) -> Result<(), Fail> {
-    commits(&rt, Log::open(&mut [0; 100], 2)).note("commits")?;
-    aborts(&rt, Log::open(&mut [0; 100], 2)).note("aborts")?;
-    is_rejected(&rt, Log::open(&mut [0; 100], 2)).note("is rejected")
+    commits(&rt, Log::open(&mut [0; 100], 2))?;
+    aborts(&rt, Log::open(&mut [0; 100], 2))?;
+    is_rejected(&rt, Log::open(&mut [0; 100], 2))
 }
 
 fn on_a_pair<A: Store + Drop, B: Store + Drop>(
@@ -313,19 +313,18 @@ fn held_over_a_pair(rt: HostRuntime) -> Result<(), Fail> {
 
 #[test]
 fn handed_back_over_a_table(rt: HostRuntime) -> Result<(), Fail> {
-    opens_again(&rt, Table::open(&mut [0; 40], 2)).note("opens again")?;
-    another_stamp(&rt, Table::open(&mut [0; 40], 2)).note("another stamp")?;
-    has_failed(&rt, Table::open(&mut [0; 40], 2)).note("has failed")
+    opens_again(&rt, Table::open(&mut [0; 40], 2))?;
+    another_stamp(&rt, Table::open(&mut [0; 40], 2))?;
+    has_failed(&rt, Table::open(&mut [0; 40], 2))
 }
 
 #[test]
 fn grants_over_a_table(rt: HostRuntime) -> Result<(), Fail> {
-    waits(&rt, Table::open(&mut [0; 40], 2)).note("waits")?;
-    without_entries(&rt, Table::open(&mut [0; 40], 2)).note("without entries")?;
+    waits(&rt, Table::open(&mut [0; 40], 2))?;
+    without_entries(&rt, Table::open(&mut [0; 40], 2))?;
     elsewhere(
         &rt,
         Table::open(&mut [0; 40], 2),
         Table::open(&mut [0; 40], 2),
     )
-    .note("elsewhere")
 }
