@@ -1,6 +1,11 @@
 #![tactic(auto)]
 // An auto-tuner over a table of parameters. It moves a gain towards what it measures, in transactions that it holds; at
 // a rejection it begins again. An operator's tool changes a limit meanwhile, by single calls, so that one rejection happens.
+ghost use Rattle.std.specs.Prelude.{◌≡◌, ℕ, ◌≢◌};
+ghost use Rattle.service.specs.Service.{seat};
+ghost use Rattle.service.specs.Services.{state_of};
+ghost use Rattle.tuner.specs.Hands.{IsOpen, IsClosed};
+
 use held::{Closed, Grant, Open, Uncertified};
 use service::{Refusal, Service};
 use std::io;
@@ -17,12 +22,10 @@ const LIMIT: Item = 1;
 
 const ATTEMPTS: u64 = 3;
 
-// What is left in hand where the tuner cannot go on. None of it may be let fall, so `main` hands it on.
+// What ends a session early. What is in hand then may not be let fall, so it is given up first.
+#[derive(Debug, Drop)]
 enum Stop {
     Refused(Refusal),
-    Open(Refusal, Open),
-    Closed(Refusal, Closed),
-    Granted(Refusal, Grant),
     Printing(io::Error),
 }
 
@@ -38,8 +41,38 @@ impl From<io::Error> for Stop {
     }
 }
 
+// Gives up what is in hand while its transaction is the tool's: that is never refused.
+fn give_up_open<S: Store>(held: Open, service: &mut Service<S>)
+    requires { IsOpen (state_of S.versions service.old) held.tool }
+{
+    match held.abort(service) {
+        Ok(()) => {}
+        Err(_) => unreachable!(),
+    }
+}
+
+fn give_up_closed<S: Store>(held: Closed, service: &mut Service<S>)
+    requires { IsClosed (state_of S.versions service.old) held.tool held.stamp }
+{
+    match held.abort(service) {
+        Ok(()) => {}
+        Err(_) => unreachable!(),
+    }
+}
+
+fn give_up_grant<S: Store>(held: Grant, service: &mut Service<S>)
+    requires { IsClosed (state_of S.versions service.old) held.tool held.stamp }
+{
+    match held.abort_all(service) {
+        Ok(()) => {}
+        Err(_) => unreachable!(),
+    }
+}
+
 // The operator lowers the limit, one call after the other.
-fn lower_limit<S: Store>(service: &mut Service<S>, limit: Value) -> Result<(), Refusal> {
+fn lower_limit<S: Store>(service: &mut Service<S>, limit: Value) -> Result<(), Refusal>
+    ensures { (t : ℕ) → t ≢ 7 → seat (state_of S.versions service.new) t ≡ seat (state_of S.versions service.old) t }
+{
     service.begin(OPERATOR)?;
     service.write(OPERATOR, LIMIT, limit)?;
     let _ = service.close(OPERATOR, 0)?;
@@ -59,7 +92,9 @@ fn adjust<S: Store>(
     held: &Open,
     service: &mut Service<S>,
     measured: Value,
-) -> Result<Value, Refusal> {
+) -> Result<Value, Refusal>
+    ensures { IsOpen (state_of S.versions service.old) held.now.tool → IsOpen (state_of S.versions service.new) held.now.tool }
+{
     let gain = held.read(service, GAIN)?;
     let limit = held.read(service, LIMIT)?;
     let next = next_gain(gain, limit, measured);
@@ -67,24 +102,47 @@ fn adjust<S: Store>(
     Ok(next)
 }
 
-// Closes the transaction, certifies it and commits it. A rejection is no stop: the next attempt may do better.
+// Commits what was certified.
+fn commit<S: Store>(grant: Grant, service: &mut Service<S>) -> Result<Option<Refusal>, Stop>
+    requires { IsClosed (state_of S.versions service.old) grant.tool grant.stamp }
+{
+    match grant.commit_all(service) {
+        Ok(()) => Ok(None),
+        Err((refusal, grant)) => {
+            give_up_grant(grant, service);
+            Err(Stop::Refused(refusal))
+        }
+    }
+}
+
+// Certifies a closed transaction and commits it. A rejection is no stop: the next attempt may do better.
+fn certify<S: Store>(closed: Closed, service: &mut Service<S>) -> Result<Option<Refusal>, Stop>
+    requires { IsClosed (state_of S.versions service.old) closed.tool closed.stamp }
+{
+    match closed.certify_all(service) {
+        Ok(grant) => commit(grant, service),
+        Err(Uncertified::Rejected(refusal)) => Ok(Some(refusal)),
+        Err(Uncertified::Refused(refusal, closed)) => {
+            give_up_closed(closed, service);
+            Err(Stop::Refused(refusal))
+        }
+    }
+}
+
+// Closes the transaction, certifies it and commits it.
 fn finish<S: Store>(
     held: Open,
     service: &mut Service<S>,
     tick: u64,
-) -> Result<Option<Refusal>, Stop> {
-    let closed = match held.close(service, tick) {
-        Ok(closed) => closed,
-        Err((refusal, held)) => return Err(Stop::Open(refusal, held)),
-    };
-    let grant = match closed.certify_all(service) {
-        Ok(grant) => grant,
-        Err(Uncertified::Rejected(refusal)) => return Ok(Some(refusal)),
-        Err(Uncertified::Refused(refusal, closed)) => return Err(Stop::Closed(refusal, closed)),
-    };
-    match grant.commit_all(service) {
-        Ok(()) => Ok(None),
-        Err((refusal, grant)) => Err(Stop::Granted(refusal, grant)),
+) -> Result<Option<Refusal>, Stop>
+    requires { IsOpen (state_of S.versions service.old) held.tool }
+{
+    match held.close(service, tick) {
+        Ok(closed) => certify(closed, service),
+        Err((refusal, held)) => {
+            give_up_open(held, service);
+            Err(Stop::Refused(refusal))
+        }
     }
 }
 
@@ -97,11 +155,15 @@ fn attempt<S: Store>(
     let held = Open::begin(service, TUNER)?;
     let next = match adjust(&held, service, measured) {
         Ok(next) => next,
-        Err(refusal) => return Err(Stop::Open(refusal, held)),
+        Err(refusal) => {
+            give_up_open(held, service);
+            return Err(Stop::Refused(refusal));
+        }
     };
     if number == 1 {
         if let Err(refusal) = lower_limit(service, 40) {
-            return Err(Stop::Open(refusal, held));
+            give_up_open(held, service);
+            return Err(Stop::Refused(refusal));
         }
     }
     Ok((next, finish(held, service, number)?))
