@@ -1,9 +1,9 @@
 -- Numbers and their bytes, once, over the width. Assumes nothing.
-use Rattle.std.proofs.Common.{◌≡◌, ℕ, zero, suc, ◌+◌, ◌-◌, ◌*◌, ◌/◌, ◌%◌, ◌^◌, ◌<◌, ◌≤◌, List, [], ◌∷◌, ◌++◌, length, get_or, take, drop, sym, refl, ap, ◌∙◌, mod-eq_of_lt, mul_assoc, add-mul, suc-add, zero-add, div-one, add-one, arith}
+use Rattle.std.proofs.Common.{◌≡◌, ℕ, zero, suc, ◌+◌, ◌-◌, ◌*◌, ◌/◌, ◌%◌, ◌^◌, ◌<◌, ◌≤◌, List, [], ◌∷◌, length, take, drop, sym, refl, ap, ◌∙◌, mod-eq_of_lt, mul_assoc, add-mul, suc-add, zero-add, add-one, arith}
 use native.Mathlib.Nat.{pow-succ', pow-le-pow_right, mod-one, one-le-pow, mul-add-div_right, mul-add-mod_self_right}
 use lib.Arith.{mod-mul, digits_lt, digits_div}
 use Rattle.std.proofs.lemmas.List.{take_all}
-use Rattle.std.specs.Int.Digits.{number_from_digits, number_from_digits_after}
+use Rattle.std.specs.Int.Digits.{number_from_digits_after}
 use Rattle.store.specs.Bytes.{number_in, bytes_of}
 use Rattle.frame.specs.RoundTrip.{Bytes}
 

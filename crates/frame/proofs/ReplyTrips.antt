@@ -1,5 +1,5 @@
 -- Each reply has one frame. Assumes nothing.
-use Rattle.std.proofs.Common.{◌≡◌, ℕ, ◌<◌, false, cond, eqb, List, [], ◌∷◌, ◌++◌, length, Ok, Err, Result, sym, refl, ap, ◌∙◌, subst, ⊎_elim, append-nil, arith}
+use Rattle.std.proofs.Common.{◌≡◌, ℕ, ◌<◌, false, eqb, List, [], ◌∷◌, ◌++◌, length, Ok, Err, Result, sym, refl, ap, ◌∙◌, subst, ⊎_elim, append-nil, arith}
 use Rattle.std.proofs.lemmas.Bool.{cond-false}
 use Rattle.service.specs.declared.calls.Call.{Call}
 use Rattle.service.specs.declared.calls.Call.TheVariants.{Begin, Read, Close}
@@ -10,7 +10,7 @@ use Rattle.service.specs.declared.refusals.Refusal.TheVariants.{UnknownTool, Wro
 use Rattle.service.specs.Refusals.{number}
 use Rattle.frame.specs.declared.faults.Fault.{Fault}
 use Rattle.frame.specs.declared.kinds.Kind.TheVariants as kind
-use Rattle.frame.specs.Fields.{field, taken, bind}
+use Rattle.frame.specs.Fields.{field, bind}
 use Rattle.frame.specs.Requests.{ended}
 use Rattle.frame.specs.RoundTrip.{Bytes, Fits}
 use Rattle.frame.specs.Replies.{Reply, given, reply_of, Gives, nothing, value, stamp, gives, taken_answer, first_with, refusals, refusal_with, taken_reply, read_reply, carries, Suits, ReplyFits, RepliesOneFrame}

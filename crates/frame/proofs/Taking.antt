@@ -1,5 +1,5 @@
 -- A field at the front of a frame. Assumes nothing.
-use Rattle.std.proofs.Common.{◌≡◌, ℕ, ◌+◌, ◌*◌, ◌<◌, ◌≤◌, cond, not, eqb, ltb, List, [], ◌∷◌, ◌++◌, length, get_or, drop, Ok, Err, sym, refl, ap, ◌∙◌, arith}
+use Rattle.std.proofs.Common.{◌≡◌, ℕ, ◌+◌, ◌*◌, ◌<◌, ◌≤◌, not, eqb, ltb, List, [], ◌∷◌, length, get_or, drop, Ok, ◌∙◌, arith}
 use Rattle.std.proofs.lemmas.Bool.{le-ltb, eq-eqb, not_from_true, cond-false}
 use Rattle.store.specs.Bytes.{number_in, part}
 use Rattle.frame.specs.declared.kinds.Kind.{Kind}

@@ -1,5 +1,5 @@
 -- Fields as parts of the frame that they are read from.
-use Rattle.std.specs.Prelude.{◌≡◌, ℕ, ◌+◌, List, length, drop, Ok, Err, Result}
+use Rattle.std.specs.Prelude.{◌≡◌, ℕ, List, length, Ok, Err, Result}
 use Rattle.std.specs.Borrow.{Bor}
 use Rattle.store.specs.Bytes.{number_in, part}
 use Rattle.frame.specs.declared.faults.Fault.{Fault}

@@ -1,5 +1,5 @@
 -- Serving a frame: the call that it asks for is made, and its answer written as a reply.
-use Rattle.std.specs.Prelude.{◌≡◌, ℕ, ◌+◌, cond, List, ◌∷◌, length, take, Ok, Err, Result, nat_lt}
+use Rattle.std.specs.Prelude.{◌≡◌, ℕ, cond, List, ◌∷◌, length, take, Ok, Err, Result, nat_lt}
 use Rattle.store.specs.declared.Version.{Version}
 use Rattle.store.specs.Bytes.{over}
 use Rattle.service.specs.declared.services.Service.{Service}

@@ -1,11 +1,11 @@
 -- Calls made one after the other.
-use Rattle.std.proofs.Common.{◌≡◌, Bool, true, false, List, [], ◌∷◌, ◌++◌, Some, None, Ok, Err, Option, Result, sym, refl, ap, ◌∙◌, subst}
+use Rattle.std.proofs.Common.{◌≡◌, Bool, true, false, List, ◌∷◌, ◌++◌, Some, Ok, Err, Result, sym, refl, ap, ◌∙◌, subst}
 use Rattle.store.specs.declared.Version.{Version}
 use Rattle.service.specs.declared.refusals.Refusal.{Refusal}
 use Rattle.service.specs.declared.calls.Call.{Call}
 use Rattle.service.specs.declared.calls.Answer.{Answer}
 use Rattle.service.specs.declared.services.Service.{Service}
-use Rattle.service.specs.Service.{State, step}
+use Rattle.service.specs.Service.{State}
 use Rattle.service.specs.Services.{state_of, Makes}
 use Rattle.history.specs.History.{History}
 use Rattle.history.specs.Runs.{Run, called}

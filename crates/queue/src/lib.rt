@@ -22,8 +22,7 @@ pub trait Token: Copy {
         ensures { result ≡ tells.stamp self.now };
 }
 
-// A kind of token that a queue can change. Each method passes its array on to the function of `slices`, since the
-// checker follows an array that is lent as a slice only where it knows the type of the elements.
+// A kind of token that a queue can change. Each method passes its array on to the function of `slices`.
 pub trait Queued: Token {
     // `slices::insert`
     fn insert_into(places: &mut [Self; PLACES], used: usize, token: Self) -> bool

@@ -1,5 +1,5 @@
 -- From a tool's own record to the whole state.
-use Rattle.std.proofs.Common.{◌≡◌, ℕ, ◌<◌, ◌≤◌, Bool, true, false, cond, List, map, length, get_or, set, Some, None, Ok, Err, Option, Result, sym, refl, ap, ◌∙◌, subst, arith}
+use Rattle.std.proofs.Common.{◌≡◌, ℕ, ◌<◌, Bool, true, false, List, length, get_or, set, Some, None, Ok, Err, Option, Result, sym, refl, ap, ◌∙◌, subst, arith}
 use Rattle.std.proofs.lemmas.List.{get_or-map, map-set, set-get_or}
 use Rattle.std.proofs.lemmas.Bool.{le-ltb}
 use Rattle.store.specs.declared.Version.{Version}
@@ -12,7 +12,7 @@ use Rattle.service.specs.declared.tools.Tool.{Tool}
 use Rattle.service.specs.declared.desks.Desk.{Desk}
 use Rattle.service.specs.declared.desks.Effect.{Effect}
 use Rattle.service.specs.declared.desks.Change.{Change}
-use Rattle.service.specs.Refusals.{refusal, rejects}
+use Rattle.service.specs.Refusals.{refusal}
 use Rattle.service.specs.Service.{Seat, State, seat, fresh, tool_of, allowed, tests, step, answer, next_seat, next, reseat, outcome, reply, Replies}
 use Rattle.service.specs.Desks.{seat_of, state, told, changed, change_of, stored, Acts, Serves, Quiet}
 use Rattle.service.proofs.Rules.{Mild, mild_refusal}

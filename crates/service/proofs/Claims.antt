@@ -1,5 +1,5 @@
 -- What certifying and settling an item do, by what stands there.
-use Rattle.std.proofs.Common.{◌≡◌, ℕ, Bool, true, false, cond, not, ◌&&◌, List, [], ◌∷◌, set, Some, None, Ok, Err, Option, sym, refl, ap, ◌∙◌, subst, arith}
+use Rattle.std.proofs.Common.{◌≡◌, ℕ, Bool, true, false, cond, [], ◌∷◌, set, Some, None, Ok, Err, Option, sym, refl, ap, subst, arith}
 use Rattle.service.specs.declared.refusals.Refusal.{Refusal}
 use Rattle.service.specs.declared.refusals.Refusal.TheVariants.{NoEntry, HasToken, NoToken}
 use Rattle.service.specs.declared.calls.Answer.TheVariants.{Done}
@@ -11,7 +11,7 @@ use Rattle.service.specs.declared.tools.Phase.TheVariants.{Failed, Committed}
 use Rattle.service.specs.Refusals.{Rules, refusal, rejects}
 use Rattle.service.specs.Certification.{Found, certification}
 use Rattle.service.specs.Entries.{is_held, find, settled_version}
-use Rattle.service.specs.Service.{State, Seat, seat, is, version, tests, outcome, next, next_reads, next_writes, next_versions, with_read, with_write, without_read, without_write, reseat, phased, claim, meets}
+use Rattle.service.specs.Service.{State, seat, is, version, tests, outcome, next, next_reads, next_writes, next_versions, with_read, with_write, without_read, without_write, reseat, phased, claim, meets}
 
 -- only rejections
 abbrev Harsh : Rules → Type 0

@@ -1,10 +1,9 @@
 -- The item's entry as the desk finds it, and the state once its stand and its tokens have changed.
-use Rattle.std.proofs.Common.{◌≡◌, ℕ, ◌<◌, ◌≤◌, List, map, length, get_or, take, set, Some, None, Option, Result, sym, refl, ap, ◌∙◌, arith}
+use Rattle.std.proofs.Common.{◌≡◌, ℕ, ◌<◌, List, map, length, get_or, take, set, Some, None, Option, Result, sym, ap, ◌∙◌, arith}
 use Rattle.std.proofs.lemmas.List.{get_or_default, map-set}
 use Rattle.store.specs.declared.Version.{Version}
 use Rattle.queue.specs.Queues.{tokens}
 use Rattle.service.specs.declared.calls.Call.{Call}
-use Rattle.service.specs.declared.tools.Entry.{Entry}
 use Rattle.service.specs.declared.tools.Tool.{Tool}
 use Rattle.service.specs.declared.desks.Desk.{Desk}
 use Rattle.service.specs.declared.tokens.ReadToken.{ReadToken}

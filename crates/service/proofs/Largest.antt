@@ -1,9 +1,9 @@
 -- The largest stamp of a store, item by item.
-use Rattle.std.proofs.Common.{◌≡◌, ℕ, ◌+◌, ◌/◌, ◌<◌, ◌≤◌, max, List, [], ◌∷◌, length, get_or, drop, Some, sym, refl, ap, ◌∙◌, arith}
+use Rattle.std.proofs.Common.{◌≡◌, ℕ, ◌+◌, ◌/◌, ◌≤◌, max, List, length, drop, Some, ap, ◌∙◌, arith}
 use Rattle.std.proofs.lemmas.List.{drop_more, drop_all}
 use Rattle.std.specs.List.{slice_get}
 use Rattle.store.specs.declared.Version.{Version}
-use Rattle.service.specs.Service.{largest, version}
+use Rattle.service.specs.Service.{largest}
 use Rattle.service.proofs.Replies.{got}
 
 -- n is the largest so far

@@ -1,7 +1,7 @@
 -- The service: its state, and what each call answers and leaves.
 use Rattle.std.specs.Prelude.{◌≡◌, ℕ, ◌+◌, ◌*◌, ◌/◌, ◌^◌, max, Bool, true, false, cond, not, ◌&&◌, ◌||◌, List, [], ◌∷◌, length, replicate, is_some, Some, None, Ok, Err, Option, Result, ◌==◌, nat_le, nat_lt, slice_index_or, slice_set}
 use Rattle.store.specs.declared.Version.{Version}
-use Rattle.queue.specs.Tokens.{Tells, place, remove, between, reached, count}
+use Rattle.queue.specs.Tokens.{Tells, place, remove, between, reached}
 use Rattle.service.specs.declared.refusals.Refusal.{Refusal}
 use Rattle.service.specs.declared.refusals.Refusal.TheVariants.{UnknownTool, WrongState, UnknownItem, TooManyEntries, TickTooLarge, CounterSpent, NoEntry, HasToken, NotCertified, NoToken}
 use Rattle.service.specs.declared.calls.Call.{Call}
@@ -11,7 +11,7 @@ use Rattle.service.specs.declared.calls.Answer.TheVariants.{Done, Value, Stamp}
 use Rattle.service.specs.declared.tools.Entry.{Entry}
 use Rattle.service.specs.declared.tools.Phase.{Phase}
 use Rattle.service.specs.declared.tools.Phase.TheVariants.{Idle, Open, Closed, Failed, Committed, Aborting}
-use Rattle.service.specs.declared.tools.Stand.TheVariants.{Bare, Held, Settled}
+use Rattle.service.specs.declared.tools.Stand.TheVariants.{Held, Settled}
 use Rattle.service.specs.declared.tokens.ReadToken.{ReadToken}
 use Rattle.service.specs.declared.tokens.WriteToken.{WriteToken}
 use Rattle.service.specs.Refusals.{Rules, refusal, rejects}

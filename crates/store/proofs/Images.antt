@@ -1,8 +1,8 @@
 -- Records one after the other in a buffer, and then zeroes. Assumes nothing.
-use Rattle.std.proofs.Common.{◌≡◌, ℕ, zero, suc, ◌+◌, ◌-◌, ◌*◌, ◌/◌, ◌<◌, ◌≤◌, Bool, true, false, cond, not, ◌&&◌, eqb, ltb, List, [], ◌∷◌, ◌++◌, map, length, get_or, take, drop, replicate, sym, refl, ap, ◌∙◌, subst, ⊎_elim, arith, take-add, rules}
+use Rattle.std.proofs.Common.{◌≡◌, ℕ, zero, suc, ◌+◌, ◌-◌, ◌*◌, ◌<◌, ◌≤◌, Bool, true, not, ◌&&◌, eqb, List, [], ◌∷◌, ◌++◌, map, length, get_or, take, drop, replicate, sym, refl, ap, ◌∙◌, ⊎_elim, arith, take-add}
 use Rattle.std.specs.List.{range_with_len, list_all, flat_map}
 use Rattle.std.proofs.lemmas.List.FromFn.{fill_by_all, map-range_with_len_more, length-map-range_with_len}
-use Rattle.std.proofs.lemmas.List.{append_assoc, length-append, length-replicate, length-drop, take_at, drop_at, drop-drop, take-append-drop, drop-replicate, get_or_append_left, get_or-append_right, get_or-replicate, get_or_past, get_or-drop, same_lists, flat_map_more, append-nil, length_push}
+use Rattle.std.proofs.lemmas.List.{append_assoc, length-append, length-replicate, length-drop, take_at, drop_at, drop-drop, take-append-drop, drop-replicate, get_or-append_right, get_or-replicate, get_or_past, same_lists, flat_map_more, length_push}
 use Rattle.std.proofs.lemmas.Bool.{and_parts, eqb-true, eqb-false, not-true, cases_lt}
 use Rattle.store.specs.Bytes.{part, over}
 use Rattle.store.specs.Log.{image, record_at, records, used}

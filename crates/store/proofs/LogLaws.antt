@@ -1,26 +1,24 @@
 -- What a log that may be opened is, and what it is after a record more and after compaction. Assumes nothing.
-use Rattle.std.proofs.Common.{◌≡◌, ℕ, ◌+◌, ◌-◌, ◌*◌, ◌/◌, ◌<◌, ◌≤◌, Bool, true, false, cond, not, ◌&&◌, ◌||◌, eqb, ltb, List, [], ◌∷◌, ◌++◌, map, length, get_or, drop, set, replicate, is_ok, Some, None, Ok, Err, Option, Result, sym, refl, ap, ◌∙◌, subst, inl, arith}
+use Rattle.std.proofs.Common.{◌≡◌, ℕ, ◌+◌, ◌-◌, ◌*◌, ◌/◌, ◌<◌, ◌≤◌, Bool, true, false, cond, not, ◌||◌, eqb, ltb, List, [], ◌∷◌, ◌++◌, map, length, get_or, drop, set, replicate, is_ok, Some, None, Option, sym, refl, ap, ◌∙◌, subst, inl, arith}
 use Rattle.std.specs.List.{range_with_len, list_all, flat_map, slice_get}
-use Rattle.std.specs.Option.{option_map, option_or}
+use Rattle.std.specs.Option.{option_map}
 use Rattle.std.proofs.lemmas.List.FromFn.{length-map-range_with_len}
-use Rattle.std.proofs.lemmas.List.{take_at, drop_at, get_or-replicate, length-append, length-replicate, length_push}
+use Rattle.std.proofs.lemmas.List.{take_at, drop_at, get_or-replicate, length-replicate, length_push}
 use Rattle.std.proofs.lemmas.List.Sums.{prefix_len-le-length}
-use Rattle.std.proofs.lemmas.Bool.{true≢false, cond-true, cond-false, and_parts, and_from, or_parts, or_from, not_from_true, not-true, eqb-true, eqb-false, eq-eqb, ne_eqb, ltb-true, ltb-false, lt-ltb, le-ltb}
+use Rattle.std.proofs.lemmas.Bool.{true≢false, cond-true, cond-false, and_parts, and_from, or_parts, or_from, not_from_true, eqb-true, eqb-false, eq-eqb, ne_eqb, ltb-true, ltb-false, lt-ltb, le-ltb}
 use Rattle.store.specs.declared.Version.{Version}
-use Rattle.store.specs.declared.faults.Fault.{Fault}
 use Rattle.store.specs.declared.faults.Fault.TheVariants.{Count, Length, Record, Trailing}
-use Rattle.store.specs.Bytes.{part, over, number_in, bytes_of}
+use Rattle.store.specs.Bytes.{over, number_in, bytes_of}
 use Rattle.store.specs.Faults.{first_of}
 use Rattle.store.specs.Log.{checked, used, records, record_at, sound, headed, item_of, version_of, version_from, zero_version, record_of, last_by, last_place, log, kept, image, compacted, appended}
-use Rattle.store.specs.Packed.{packed, unpacked}
-use Rattle.store.proofs.Ends.{tag_is}
+use Rattle.store.specs.Packed.{packed}
 use Rattle.store.proofs.Images.{full, length_image, length_joined, used_image, records_image, image_push, image_is}
 use Rattle.store.proofs.Lasts.{last_by_append, last_by_map, last_by_kept, all_kept, length_kept, or_cond, last_place_more, last_by_same, last_by_within, noted}
 use Rattle.store.proofs.Made.{nth_made, set_made, map_same}
 use Rattle.store.proofs.Numbers.{length_bytes_of, number_in_bytes_of}
-use Rattle.store.proofs.Passes.{all_at, all_from, all_made, all_made_at, all_push}
-use Rattle.store.proofs.Places.{length_part, length_over, part_over_same, part_over_other}
-use Rattle.store.proofs.RoundTrip.{Fits, unpacked_packed, length_packed_with}
+use Rattle.store.proofs.Passes.{all_from, all_made, all_made_at, all_push}
+use Rattle.store.proofs.Places.{length_part, part_over_same, part_over_other}
+use Rattle.store.proofs.RoundTrip.{Fits, unpacked_packed}
 
 -- what a buffer that is not refused shows
 pub record Good (b : List ℕ) (count : ℕ) : Type 0 where

@@ -1,8 +1,8 @@
 -- A version comes back from its bytes, once, over the width of a value. Assumes nothing.
-use Rattle.std.proofs.Common.{◌≡◌, ℕ, ◌+◌, ◌^◌, ◌<◌, List, ◌++◌, length, take, drop, sym, refl, ap, ◌∙◌, arith}
-use Rattle.std.proofs.lemmas.List.{length-append, take_at, drop_at, take_all, drop-drop}
+use Rattle.std.proofs.Common.{◌≡◌, ℕ, ◌^◌, ◌<◌, ◌++◌, length, take, drop, sym, ap, ◌∙◌}
+use Rattle.std.proofs.lemmas.List.{length-append, take_at, drop_at, drop-drop}
 use Rattle.store.specs.declared.Version.{Version}
-use Rattle.store.specs.Bytes.{part, bytes_of, number_in}
+use Rattle.store.specs.Bytes.{bytes_of, number_in}
 use Rattle.store.specs.Packed.{size_with, packed_with, unpacked_with}
 use Rattle.store.proofs.Numbers.{length_bytes_of, number_in_bytes_of}
 

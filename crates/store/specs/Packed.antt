@@ -1,5 +1,5 @@
 -- A version as bytes: the value, twrite and tread one after the other, each the highest byte first. Assumes nothing.
-use Rattle.std.specs.Prelude.{ℕ, ◌+◌, List, ◌++◌, take, drop}
+use Rattle.std.specs.Prelude.{ℕ, ◌+◌, List, ◌++◌, take}
 use Rattle.store.specs.declared.Version.{Version}
 use Rattle.store.specs.Bytes.{number_in, bytes_of, part}
 

@@ -1,5 +1,5 @@
 -- The table: the packed version of item i stands in the buffer at i times its size. Assumes nothing.
-use Rattle.std.specs.Prelude.{ℕ, ◌*◌, Bool, cond, ◌||◌, List, [], ◌∷◌, map, length, is_ok, Result, ◌==◌, nat_lt}
+use Rattle.std.specs.Prelude.{ℕ, ◌*◌, cond, ◌||◌, List, [], ◌∷◌, map, length, is_ok, Result, ◌==◌, nat_lt}
 use Rattle.std.specs.List.{range_with_len}
 use Rattle.store.specs.declared.Version.{Version}
 use Rattle.store.specs.declared.faults.Fault.{Fault}

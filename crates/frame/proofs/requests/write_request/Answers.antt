@@ -1,7 +1,7 @@
-use Rattle.std.proofs.Common.{◌≡◌, ℕ, ◌<◌, List, Result, sym, ap, ◌∙◌, arith}
+use Rattle.std.proofs.Common.{◌≡◌, ℕ, List, Result, sym, ap, ◌∙◌, arith}
 use Rattle.service.specs.declared.calls.Call.{Call}
 use Rattle.frame.specs.declared.faults.Fault.{Fault}
-use Rattle.frame.specs.Drafts.{contents, written}
+use Rattle.frame.specs.Drafts.{written}
 use Rattle.frame.specs.Requests.{frame_of, requested, read_request, written_call}
 use Rattle.frame.proofs.RoundTrips.{read_written, requested_fits}
 use Rattle.frame.proofs.Written.{written_takes}

@@ -1,4 +1,4 @@
-use Rattle.std.proofs.Common.{◌≡◌, ◌≤◌, List, length, take, drop}
+use Rattle.std.proofs.Common.{◌≡◌, List, take, drop}
 use Rattle.store.specs.declared.Version.{Version}
 use Rattle.service.specs.Services.{state_of}
 use Rattle.history.specs.History.{History}

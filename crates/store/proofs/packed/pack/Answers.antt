@@ -1,4 +1,4 @@
-use Rattle.std.proofs.Common.{◌≡◌, sym, ◌∙◌, div-one}
+use Rattle.std.proofs.Common.{◌≡◌, ◌∙◌, div-one}
 use Rattle.store.specs.Bytes.{bytes_of}
 use Rattle.store.proofs.packed.pack.Goals as goal
 

@@ -1,4 +1,4 @@
-use Rattle.std.proofs.Common.{◌≡◌, List, [], ◌∷◌, ◌∙◌, div-one}
+use Rattle.std.proofs.Common.{◌≡◌, [], ◌∷◌, ◌∙◌, div-one}
 use Rattle.store.specs.Bytes.{bytes_of}
 use Rattle.store.specs.Packed.{packed}
 use Rattle.store.proofs.records.encode.Goals as goal

@@ -1,4 +1,4 @@
-use Rattle.std.proofs.Common.{◌≡◌, ℕ, ◌+◌, ◌*◌, List, get_or, Some, None, sym, ap, ◌∙◌, arith}
+use Rattle.std.proofs.Common.{◌≡◌, ℕ, ◌+◌, ◌*◌, List, get_or, None, sym, ap, ◌∙◌, arith}
 use Rattle.store.specs.Bytes.{part, over}
 use Rattle.store.specs.Log.{last_place, item_of, record_at}
 use Rattle.store.proofs.Compacts.{moved_is, pass_at, pass_drop, pass_keep, pass_all}

@@ -1,4 +1,4 @@
-use Rattle.std.proofs.Common.{◌≡◌, sym, ap, ◌∙◌, arith}
+use Rattle.std.proofs.Common.{sym, ap, ◌∙◌, arith}
 use Rattle.store.specs.Log.{sound, record_at}
 use Rattle.store.proofs.Passes.{all_made, all_made_not}
 use Rattle.store.proofs.records.sound.Goals as goal

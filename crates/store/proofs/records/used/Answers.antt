@@ -1,4 +1,4 @@
-use Rattle.std.proofs.Common.{◌≡◌, ◌/◌, length, sym, ◌∙◌, arith}
+use Rattle.std.proofs.Common.{◌/◌, length, sym, arith}
 use Rattle.store.proofs.Ends.{used_is}
 use Rattle.store.proofs.records.used.Goals as goal
 

@@ -1,8 +1,7 @@
-use Rattle.std.proofs.Common.{◌≡◌, ℕ, ◌+◌, ◌-◌, List, ◌∷◌, ◌++◌, length, take, set, sym, ap, ◌∙◌, arith}
+use Rattle.std.proofs.Common.{◌≡◌, ◌+◌, ◌-◌, length, set, ap, ◌∙◌, arith}
 use borrow.Rule.Slice.PartMut.{put_mid}
 use Rattle.std.proofs.lemmas.List.{length-set}
 use Rattle.store.specs.Bytes.{bytes_of}
-use Rattle.frame.specs.Fields.{tag, width}
 use Rattle.frame.proofs.Bytes.{length_bytes_of}
 use Rattle.frame.proofs.Putting.{put_field, field_parts, length_mid, length_head}
 use Rattle.frame.proofs.drafts.Draft.put.Goals as goal

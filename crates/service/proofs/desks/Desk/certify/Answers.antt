@@ -1,10 +1,9 @@
-use Rattle.std.proofs.Common.{◌≡◌, ℕ, List, [], get_or, take, set, Some, None, Err, Option, sym, refl, ap, ◌∙◌, arith}
-use Rattle.store.specs.declared.Version.{Version}
+use Rattle.std.proofs.Common.{[], take, set, Err, sym, refl, ap, ◌∙◌, arith}
 use Rattle.service.specs.declared.calls.Call.TheVariants.{Certify}
 use Rattle.service.specs.declared.tools.Tool.{Tool}
 use Rattle.service.specs.Entries.{index_from}
 use Rattle.service.specs.declared.tools.Phase.TheVariants.{Failed}
-use Rattle.service.specs.Service.{State, Seat, seat, reseat, phased}
+use Rattle.service.specs.Service.{State, Seat, reseat, phased}
 use Rattle.service.specs.Desks.{state}
 use Rattle.service.proofs.Acts.{seat_at_tool, reseated}
 use Rattle.service.proofs.Items.{absent_at, present_at, same_tool, moved, settles}

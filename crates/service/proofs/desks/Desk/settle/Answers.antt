@@ -1,4 +1,4 @@
-use Rattle.std.proofs.Common.{take, set, Ok, sym, refl, ap, ◌∙◌, arith}
+use Rattle.std.proofs.Common.{take, Ok, sym, refl, ap, ◌∙◌, arith}
 use Rattle.service.specs.declared.calls.Answer.TheVariants.{Done}
 use Rattle.service.specs.declared.calls.Call.TheVariants.{Settle}
 use Rattle.service.specs.declared.tools.Tool.{Tool}

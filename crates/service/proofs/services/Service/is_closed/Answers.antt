@@ -1,7 +1,3 @@
-use Rattle.std.proofs.Common.{◌≡◌}
-use Rattle.service.specs.Service.{seat, fresh}
-use Rattle.service.specs.Desks.{seat_of}
-use Rattle.service.specs.Services.{state_of}
 use Rattle.service.proofs.services.Service.is_closed.Goals as goal
 
 pub returns-in-Some : goal.returns-in-Some

@@ -1,4 +1,4 @@
-use Rattle.std.proofs.Common.{◌≡◌, ℕ, ◌+◌, List, ◌++◌, take, drop, sym, ap, ◌∙◌, arith}
+use Rattle.std.proofs.Common.{ℕ, ◌+◌, List, ◌++◌, take, drop, sym, ap, ◌∙◌, arith}
 use Rattle.service.specs.declared.item_list.ItemList.{ItemList}
 use Rattle.service.specs.Views.{items_of, items_that}
 use Rattle.service.proofs.Lists.{items_ends, items_more, items_goes}

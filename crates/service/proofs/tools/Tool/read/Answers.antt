@@ -1,7 +1,7 @@
-use Rattle.std.proofs.Common.{◌≡◌, ◌<◌, ◌≤◌, List, length, take, sym, refl, ap, ◌∙◌, arith}
+use Rattle.std.proofs.Common.{List, take, sym, refl, ap, ◌∙◌, arith}
 use Rattle.std.proofs.lemmas.List.{length-take-le}
 use Rattle.service.specs.declared.tools.Entry.{Entry}
-use Rattle.service.specs.Entries.{blank, read_from}
+use Rattle.service.specs.Entries.{read_from}
 use Rattle.service.specs.Service.{entered}
 use Rattle.service.specs.Desks.{seat_of}
 use Rattle.service.proofs.Places.{found_at, index_none}

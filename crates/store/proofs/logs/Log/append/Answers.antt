@@ -1,6 +1,6 @@
-use Rattle.std.proofs.Common.{◌≡◌, ℕ, ◌*◌, ◌≤◌, List, length, get_or, None, refl, ap, ◌∙◌, arith}
+use Rattle.std.proofs.Common.{ℕ, ◌*◌, ◌≤◌, List, length, get_or, None, refl, ap, ◌∙◌, arith}
 use Rattle.std.proofs.lemmas.List.{length-set}
-use Rattle.store.proofs.LogLaws.{Grown, good_from, from_good, grows}
+use Rattle.store.proofs.LogLaws.{good_from, from_good, grows}
 use Rattle.store.proofs.Places.{over_new}
 use Rattle.store.proofs.logs.Log.append.Goals as goal
 

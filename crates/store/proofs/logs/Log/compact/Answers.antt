@@ -1,6 +1,6 @@
-use Rattle.std.proofs.Common.{◌≡◌, ℕ, ◌<◌, List, arith}
+use Rattle.std.proofs.Common.{ℕ, ◌<◌, List, arith}
 use Rattle.store.specs.Log.{record_at, item_of}
-use Rattle.store.proofs.LogLaws.{Good, Shrunk, good_from, from_good, item_below, used_fits, shrinks}
+use Rattle.store.proofs.LogLaws.{good_from, from_good, item_below, used_fits, shrinks}
 use Rattle.store.proofs.logs.Log.compact.Goals as goal
 
 pub compact-used-requires : goal.compact-used-requires

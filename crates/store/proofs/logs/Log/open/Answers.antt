@@ -1,4 +1,4 @@
-use Rattle.std.proofs.Common.{◌≡◌, true, is_ok, sym, ap, ◌∙◌, arith}
+use Rattle.std.proofs.Common.{is_ok, sym, ap, ◌∙◌, arith}
 use Rattle.store.proofs.LogLaws.{good_from, item_below}
 use Rattle.store.proofs.logs.Log.open.Goals as goal
 

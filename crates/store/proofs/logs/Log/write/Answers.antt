@@ -1,6 +1,6 @@
-use Rattle.std.proofs.Common.{◌≡◌, set, sym, refl, ap, ◌∙◌}
+use Rattle.std.proofs.Common.{set, sym, refl, ap, ◌∙◌}
 use Rattle.std.proofs.lemmas.Bool.{cond-true, cond-false, lt-ltb, le-ltb}
-use Rattle.store.specs.Log.{log, appended}
+use Rattle.store.specs.Log.{appended}
 use Rattle.store.proofs.Made.{set_made_past}
 use Rattle.store.proofs.logs.Log.write.Goals as goal
 

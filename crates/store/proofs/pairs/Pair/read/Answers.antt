@@ -1,4 +1,4 @@
-use Rattle.std.proofs.Common.{length, sym, ap, ◌∙◌, arith}
+use Rattle.std.proofs.Common.{sym, ap, ◌∙◌, arith}
 use Rattle.std.specs.List.{slice_get}
 use Rattle.store.proofs.PairLaws.{nth_pair_first, nth_pair_second, nth_pair_past}
 use Rattle.store.proofs.pairs.Pair.read.Goals as goal

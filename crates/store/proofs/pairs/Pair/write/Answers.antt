@@ -1,4 +1,4 @@
-use Rattle.std.proofs.Common.{length, set, sym, refl, ap, ◌∙◌, arith}
+use Rattle.std.proofs.Common.{set, sym, refl, ap, ◌∙◌, arith}
 use Rattle.store.specs.Pair.{pair}
 use Rattle.store.proofs.PairLaws.{set_pair_first, set_pair_second, set_pair_past}
 use Rattle.store.proofs.pairs.Pair.write.Goals as goal

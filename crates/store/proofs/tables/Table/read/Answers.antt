@@ -1,7 +1,5 @@
-use Rattle.std.proofs.Common.{◌≡◌, ℕ, ◌+◌, ◌-◌, ◌*◌, List, length, take, drop, sym, ap, ◌∙◌, arith}
+use Rattle.std.proofs.Common.{◌≡◌, ℕ, ◌+◌, ◌-◌, ◌*◌, List, sym, ◌∙◌, arith}
 use Rattle.std.proofs.lemmas.Bool.{cond-true, eq-eqb}
-use Rattle.store.specs.Bytes.{part}
-use Rattle.store.specs.Packed.{unpacked}
 use Rattle.store.proofs.Made.{nth_made, nth_made_past}
 use Rattle.store.proofs.Places.{length_part}
 use Rattle.store.proofs.tables.Table.read.Goals as goal
