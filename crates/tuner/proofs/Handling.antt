@@ -8,8 +8,9 @@ use Rattle.store.specs.declared.Version.{Version}
 use Rattle.service.specs.declared.refusals.Refusal.{Refusal}
 use Rattle.service.specs.declared.refusals.Refusal.TheVariants.{WrongState}
 use Rattle.service.specs.declared.calls.Answer.{Answer}
+use Rattle.service.specs.declared.calls.Answer.TheVariants.{Stamp}
 use Rattle.service.specs.declared.calls.Call.{Call}
-use Rattle.service.specs.declared.calls.Call.TheVariants.{Begin, Read, Write, Commit, Abort}
+use Rattle.service.specs.declared.calls.Call.TheVariants.{Begin, Read, Write, Close, Commit, Abort}
 use Rattle.service.specs.declared.services.Service.{Service}
 use Rattle.service.specs.Refusals.{rejects}
 use Rattle.service.specs.Service.{Seat, State, seat, tool_of, rules, step, Does}
@@ -25,7 +26,7 @@ use Rattle.held.specs.Calls.{after, without, if_accepted, up_to_refusal, first_r
 use Rattle.held.specs.Held.{only_if, or_back, is_rejection, granted, certifications, certifying, certifies_all, settlements, settling, settles_all, commits_all}
 use Rattle.held.proofs.Made.{made_after}
 use Rattle.tuner.specs.Hands.{IsOpen, IsClosed}
-use Rattle.tuner.proofs.Turns.{was_refused, elsewhere, open_refused, known, open_accepted, certifications_keep}
+use Rattle.tuner.proofs.Turns.{was_refused, elsewhere, open_refused, known, open_accepted, close_accepted, certifications_keep}
 
 -- a seat that stays as it was
 pub open_still : (s s' : State) (t : ℕ) → seat s' t ≡ seat s t → IsOpen s t → IsOpen s' t
@@ -58,6 +59,9 @@ module _ {S : Type 0} (versions : S → List Version) where
   pub open_written : (x y : Service S) (t i v : ℕ) (a : Result Answer Refusal) → Makes versions x (Write t i v) a y → IsOpen (state_of versions x) t → IsOpen (state_of versions y) t
   open_written x y t i v (Ok a) m o = open_accepted (state_of versions x) (state_of versions y) (Write t i v) a m.does (sixteen x t o.known) o.open_then
   open_written x y t i v (Err r) m o = open_refused (state_of versions x) (state_of versions y) (Write t i v) r m.does o
+
+  pub closed_from : (x y : Service S) (t k st : ℕ) → Makes versions x (Close t k) (Ok (Stamp st)) y → IsOpen (state_of versions x) t → IsClosed (state_of versions y) t st
+  closed_from x y t k st m o = close_accepted (state_of versions x) (state_of versions y) t k st m.does (sixteen x t o.known)
 
   -- a refused commit leaves the transaction closed
   pub commit_keeps : (x y : Service S) (g : Grant) (p : Refusal × Grant) → Performs versions x (commits_all g) (Err p) y → IsClosed (state_of versions x) g.tool g.stamp → IsClosed (state_of versions y) p.1.tool p.1.stamp

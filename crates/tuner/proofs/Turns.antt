@@ -1,15 +1,15 @@
 -- What a call leaves of the seats, for a tool whose transaction is in hand.
-use Rattle.std.proofs.Common.{◌≡◌, ℕ, ◌<◌, ◌+◌, ◌*◌, Bool, true, false, cond, eqb, ltb, ◌&&◌, List, [], ◌∷◌, map, length, Some, None, Ok, Err, Option, Result, sym, refl, ap, ◌∙◌, subst, arith}
+use Rattle.std.proofs.Common.{◌≡◌, ℕ, ◌<◌, ◌+◌, ◌*◌, Bool, true, false, cond, eqb, ◌&&◌, List, [], ◌∷◌, map, length, Some, None, Ok, Err, Option, Result, sym, refl, ap, ◌∙◌, subst, arith}
 use Rattle.std.proofs.lemmas.List.{length-set, get_or-set_same, get_or-set_other}
-use Rattle.std.proofs.lemmas.Bool.{and_from, eq-eqb, le-ltb}
+use Rattle.std.proofs.lemmas.Bool.{and_from, eq-eqb}
 use Rattle.service.specs.declared.refusals.Refusal.{Refusal}
 use Rattle.service.specs.declared.calls.Answer.{Answer}
 use Rattle.service.specs.declared.calls.Answer.TheVariants.{Stamp}
 use Rattle.service.specs.declared.calls.Call.{Call}
-use Rattle.service.specs.declared.calls.Call.TheVariants.{Close, Certify, Abort}
+use Rattle.service.specs.declared.calls.Call.TheVariants.{Close, Certify}
 use Rattle.service.specs.declared.tools.Phase.TheVariants.{Open, Closed, Failed}
 use Rattle.service.specs.Refusals.{refusal, rejects}
-use Rattle.service.specs.Service.{Seat, State, fresh, seat, is, tool_of, allowed, counter, rules, answer, phased, next_seat, next, reseat, outcome, Does}
+use Rattle.service.specs.Service.{Seat, State, fresh, seat, is, tool_of, counter, rules, answer, phased, next_seat, next, reseat, outcome, Does}
 use Rattle.service.proofs.Phases.{clash}
 use Rattle.service.proofs.Rules.{rejected, clear, tool_below}
 use Rattle.history.proofs.Laws.{refusals_keep}
@@ -90,12 +90,6 @@ close_accepted s s' t k st d l =
       known = known s s' (Close t k) (Stamp st) d;
       closed_then = and_from _ _ (ap (λ (x : Seat). is x.phase Closed) z) (eq-eqb _ _ (ap (λ (x : Seat). x.stamp) z ∙ m));
     }
-
--- aborting is not refused while the transaction is the tool's
-pub abort_accepted : (s : State) (t : ℕ) → t < 16 → allowed (Abort t) (seat s t).phase ≡ true → refusal (rules s (Abort t)) ≡ None
-abort_accepted s t k h =
-    let a : ltb 15 t ≡ false = le-ltb 15 t (omega arith) in
-    rw (a, h)
 
 -- a certification that rejects nothing leaves the transaction closed
 pub certify_keeps : (s : State) (t i st : ℕ) → t < length s.seats → IsClosed s t st → (o : Option Refusal) → is_rejection o ≡ false → IsClosed (outcome s (seat s t) (Certify t i) o).1 t st

@@ -1,10 +1,11 @@
 #![tactic(auto)]
 // An auto-tuner over a table of parameters. It moves a gain towards what it measures, in transactions that it holds; at
 // a rejection it begins again. An operator's tool changes a limit meanwhile, by single calls, so that one rejection happens.
-ghost use Rattle.std.specs.Prelude.{◌≡◌, ℕ, ◌≢◌};
+ghost use Rattle.std.specs.Prelude.{◌≡◌, ℕ, ◌≢◌, IfErr};
 ghost use Rattle.service.specs.Service.{seat};
 ghost use Rattle.service.specs.Services.{state_of};
-ghost use Rattle.tuner.specs.Hands.{IsOpen, IsClosed};
+ghost use Rattle.tuner.specs.declared.Stop.TheVariants.{Refused};
+ghost use Rattle.tuner.specs.Hands.{IsOpen, IsClosed, Stands};
 
 use held::{Closed, Grant, Open, Uncertified};
 use service::{Refusal, Service};
@@ -22,26 +23,42 @@ const LIMIT: Item = 1;
 
 const ATTEMPTS: u64 = 3;
 
-// What ends a session early. What is in hand then may not be let fall, so it is given up first.
-#[derive(Debug, Drop)]
+// What is left in hand where the tuner cannot go on. None of it may be let fall, so it is handed on and given up.
 enum Stop {
     Refused(Refusal),
-    Printing(io::Error),
+    Open(Refusal, Open),
+    Closed(Refusal, Closed),
+    Granted(Refusal, Grant),
 }
 
 impl From<Refusal> for Stop {
+    ghost from_gives = { λ refusal stop. stop ≡ Refused refusal };
+
     fn from(refusal: Refusal) -> Stop {
         Stop::Refused(refusal)
     }
 }
 
-impl From<io::Error> for Stop {
-    fn from(error: io::Error) -> Stop {
-        Stop::Printing(error)
+// Why a session ended early.
+#[derive(Debug, Drop)]
+enum Ended {
+    Refused(Refusal),
+    Printing(io::Error),
+}
+
+impl From<Refusal> for Ended {
+    fn from(refusal: Refusal) -> Ended {
+        Ended::Refused(refusal)
     }
 }
 
-// Gives up what is in hand while its transaction is the tool's: that is never refused.
+impl From<io::Error> for Ended {
+    fn from(error: io::Error) -> Ended {
+        Ended::Printing(error)
+    }
+}
+
+// Giving up what is in hand is never refused while its transaction is the tool's.
 fn give_up_open<S: Store>(held: Open, service: &mut Service<S>)
     requires { IsOpen (state_of S.versions service.old) held.tool }
 {
@@ -66,6 +83,27 @@ fn give_up_grant<S: Store>(held: Grant, service: &mut Service<S>)
     match held.abort_all(service) {
         Ok(()) => {}
         Err(_) => unreachable!(),
+    }
+}
+
+// Gives up what is in hand, and says why the tuner could not go on.
+fn give_up<S: Store>(stop: Stop, service: &mut Service<S>) -> Refusal
+    requires { Stands (state_of S.versions service.old) stop }
+{
+    match stop {
+        Stop::Refused(refusal) => refusal,
+        Stop::Open(refusal, held) => {
+            give_up_open(held, service);
+            refusal
+        }
+        Stop::Closed(refusal, held) => {
+            give_up_closed(held, service);
+            refusal
+        }
+        Stop::Granted(refusal, held) => {
+            give_up_grant(held, service);
+            refusal
+        }
     }
 }
 
@@ -102,47 +140,26 @@ fn adjust<S: Store>(
     Ok(next)
 }
 
-// Commits what was certified.
-fn commit<S: Store>(grant: Grant, service: &mut Service<S>) -> Result<Option<Refusal>, Stop>
-    requires { IsClosed (state_of S.versions service.old) grant.tool grant.stamp }
-{
-    match grant.commit_all(service) {
-        Ok(()) => Ok(None),
-        Err((refusal, grant)) => {
-            give_up_grant(grant, service);
-            Err(Stop::Refused(refusal))
-        }
-    }
-}
-
-// Certifies a closed transaction and commits it. A rejection is no stop: the next attempt may do better.
-fn certify<S: Store>(closed: Closed, service: &mut Service<S>) -> Result<Option<Refusal>, Stop>
-    requires { IsClosed (state_of S.versions service.old) closed.tool closed.stamp }
-{
-    match closed.certify_all(service) {
-        Ok(grant) => commit(grant, service),
-        Err(Uncertified::Rejected(refusal)) => Ok(Some(refusal)),
-        Err(Uncertified::Refused(refusal, closed)) => {
-            give_up_closed(closed, service);
-            Err(Stop::Refused(refusal))
-        }
-    }
-}
-
-// Closes the transaction, certifies it and commits it.
+// Closes the transaction, certifies it and commits it. A rejection is no stop: the next attempt may do better.
 fn finish<S: Store>(
     held: Open,
     service: &mut Service<S>,
     tick: u64,
 ) -> Result<Option<Refusal>, Stop>
-    requires { IsOpen (state_of S.versions service.old) held.tool }
+    ensures { IsOpen (state_of S.versions service.old) held.tool → IfErr result (λ stop. Stands (state_of S.versions service.new) stop) }
 {
-    match held.close(service, tick) {
-        Ok(closed) => certify(closed, service),
-        Err((refusal, held)) => {
-            give_up_open(held, service);
-            Err(Stop::Refused(refusal))
-        }
+    let closed = match held.close(service, tick) {
+        Ok(closed) => closed,
+        Err((refusal, held)) => return Err(Stop::Open(refusal, held)),
+    };
+    let grant = match closed.certify_all(service) {
+        Ok(grant) => grant,
+        Err(Uncertified::Rejected(refusal)) => return Ok(Some(refusal)),
+        Err(Uncertified::Refused(refusal, closed)) => return Err(Stop::Closed(refusal, closed)),
+    };
+    match grant.commit_all(service) {
+        Ok(()) => Ok(None),
+        Err((refusal, grant)) => Err(Stop::Granted(refusal, grant)),
     }
 }
 
@@ -151,28 +168,33 @@ fn attempt<S: Store>(
     service: &mut Service<S>,
     number: u64,
     measured: Value,
-) -> Result<(Value, Option<Refusal>), Stop> {
+) -> Result<(Value, Option<Refusal>), Stop>
+    ensures { IfErr result (λ stop. Stands (state_of S.versions service.new) stop) }
+{
     let held = Open::begin(service, TUNER)?;
     let next = match adjust(&held, service, measured) {
         Ok(next) => next,
-        Err(refusal) => {
-            give_up_open(held, service);
-            return Err(Stop::Refused(refusal));
-        }
+        Err(refusal) => return Err(Stop::Open(refusal, held)),
     };
     if number == 1 {
         if let Err(refusal) = lower_limit(service, 40) {
-            give_up_open(held, service);
-            return Err(Stop::Refused(refusal));
+            return Err(Stop::Open(refusal, held));
         }
     }
     Ok((next, finish(held, service, number)?))
 }
 
 // Attempts until one is committed, at most `ATTEMPTS` of them.
-fn tune<S: Store>(rt: &HostRuntime, service: &mut Service<S>, measured: Value) -> Result<(), Stop> {
+fn tune<S: Store>(
+    rt: &HostRuntime,
+    service: &mut Service<S>,
+    measured: Value,
+) -> Result<(), Ended> {
     for number in 1..=ATTEMPTS {
-        let (next, rejection) = attempt(service, number, measured)?;
+        let (next, rejection) = match attempt(service, number, measured) {
+            Ok(attempted) => attempted,
+            Err(stop) => return Err(Ended::Refused(give_up(stop, service))),
+        };
         match rejection {
             None => {
                 println!(rt; "attempt {number}: gain {next} committed")?;
@@ -188,7 +210,7 @@ fn tune<S: Store>(rt: &HostRuntime, service: &mut Service<S>, measured: Value) -
     Ok(())
 }
 
-fn show<S: Store>(rt: &HostRuntime, service: &Service<S>) -> Result<(), Stop> {
+fn show<S: Store>(rt: &HostRuntime, service: &Service<S>) -> Result<(), Ended> {
     let gain = service.peek(GAIN)?.version.value;
     let limit = service.peek(LIMIT)?.version.value;
     println!(rt; "gain {gain}, limit {limit}")?;
@@ -196,7 +218,7 @@ fn show<S: Store>(rt: &HostRuntime, service: &Service<S>) -> Result<(), Stop> {
 }
 
 // The operator sets a limit, and the tuner works twice.
-fn session<S: Store + Drop>(rt: &HostRuntime, store: S) -> Result<(), Stop> {
+fn session<S: Store + Drop>(rt: &HostRuntime, store: S) -> Result<(), Ended> {
     let mut service = Service::start(store);
     lower_limit(&mut service, 60)?;
     show(rt, &service)?;
@@ -206,7 +228,7 @@ fn session<S: Store + Drop>(rt: &HostRuntime, store: S) -> Result<(), Stop> {
     show(rt, &service)
 }
 
-fn main(rt: HostRuntime) -> Result<(), Stop> {
+fn main(rt: HostRuntime) -> Result<(), Ended> {
     let mut buffer = [0; 40];
     session(&rt, Table::open(&mut buffer, 2))
 }
