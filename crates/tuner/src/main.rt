@@ -3,9 +3,14 @@
 // a rejection it begins again. An operator's tool changes a limit meanwhile, by single calls, so that one rejection happens.
 ghost use Rattle.std.specs.Prelude.{◌≡◌, ℕ, ◌≢◌, IfErr};
 ghost use Rattle.service.specs.Service.{seat};
-ghost use Rattle.service.specs.Services.{state_of};
+ghost use Rattle.service.specs.Services.{state_of, Makes};
+ghost use Rattle.service.specs.declared.calls.Call.TheVariants.{Abort};
+ghost use Rattle.service.specs.declared.calls.Answer.TheVariants.{Done};
+ghost use Rattle.held.specs.Calls.{Performs};
+ghost use Rattle.held.specs.Held.{aborts_closed, aborts_all};
+ghost use Rattle.tuner.specs.declared.Ended.TheVariants.{Refused as EndedRefused, Printing};
 ghost use Rattle.tuner.specs.declared.Stop.TheVariants.{Refused};
-ghost use Rattle.tuner.specs.Hands.{IsOpen, IsClosed, Stands};
+ghost use Rattle.tuner.specs.Hands.{IsOpen, IsClosed, Stands, why, GivenUp};
 
 use held::{Closed, Grant, Open, Uncertified};
 use service::{Refusal, Service};
@@ -47,12 +52,16 @@ enum Ended {
 }
 
 impl From<Refusal> for Ended {
+    ghost from_gives = { λ refusal ended. ended ≡ EndedRefused refusal };
+
     fn from(refusal: Refusal) -> Ended {
         Ended::Refused(refusal)
     }
 }
 
 impl From<io::Error> for Ended {
+    ghost from_gives = { λ error ended. ended ≡ Printing error };
+
     fn from(error: io::Error) -> Ended {
         Ended::Printing(error)
     }
@@ -61,6 +70,7 @@ impl From<io::Error> for Ended {
 // Giving up what is in hand is never refused while its transaction is the tool's.
 fn give_up_open<S: Store>(held: Open, service: &mut Service<S>)
     requires { IsOpen (state_of S.versions service.old) held.tool }
+    ensures { Makes S.versions service.old (Abort held.tool) (Ok Done) service.new }
 {
     match held.abort(service) {
         Ok(()) => {}
@@ -70,6 +80,7 @@ fn give_up_open<S: Store>(held: Open, service: &mut Service<S>)
 
 fn give_up_closed<S: Store>(held: Closed, service: &mut Service<S>)
     requires { IsClosed (state_of S.versions service.old) held.tool held.stamp }
+    ensures { Performs S.versions service.old (aborts_closed held) (Ok tt) service.new }
 {
     match held.abort(service) {
         Ok(()) => {}
@@ -79,6 +90,7 @@ fn give_up_closed<S: Store>(held: Closed, service: &mut Service<S>)
 
 fn give_up_grant<S: Store>(held: Grant, service: &mut Service<S>)
     requires { IsClosed (state_of S.versions service.old) held.tool held.stamp }
+    ensures { Performs S.versions service.old (aborts_all held) (Ok tt) service.new }
 {
     match held.abort_all(service) {
         Ok(()) => {}
@@ -89,6 +101,8 @@ fn give_up_grant<S: Store>(held: Grant, service: &mut Service<S>)
 // Gives up what is in hand, and says why the tuner could not go on.
 fn give_up<S: Store>(stop: Stop, service: &mut Service<S>) -> Refusal
     requires { Stands (state_of S.versions service.old) stop }
+    ensures why { result ≡ why stop }
+    ensures given_up { GivenUp S.versions service.old stop service.new }
 {
     match stop {
         Stop::Refused(refusal) => refusal,
