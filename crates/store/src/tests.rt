@@ -93,10 +93,10 @@ fn table_last_item(rt: HostRuntime) {
 
 #[test]
 fn fault_numbers(rt: HostRuntime) {
-    assert_eq!(rt; Fault::Count.number(), 30);
-    assert_eq!(rt; Fault::Length.number(), 31);
-    assert_eq!(rt; Fault::Record.number(), 32);
-    assert_eq!(rt; Fault::Trailing.number(), 33);
+    assert_eq!(rt; u8::from(Fault::Count), 30);
+    assert_eq!(rt; u8::from(Fault::Length), 31);
+    assert_eq!(rt; u8::from(Fault::Record), 32);
+    assert_eq!(rt; u8::from(Fault::Trailing), 33);
 }
 
 // A log's record of an item, with the value in its last byte.

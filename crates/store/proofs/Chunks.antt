@@ -1,0 +1,16 @@
+-- The chunks of a buffer are its record places. Assumes nothing.
+use Rattle.std.proofs.Common.{◌≡◌, ℕ, zero, suc, ◌+◌, ◌*◌, List, ◌∷◌, map, drop, refl, ap, ◌∙◌, arith}
+use Rattle.std.specs.List.{range_with_len}
+use Rattle.std.specs.Simd.{first_chunks}
+use Rattle.std.proofs.lemmas.List.{drop-drop}
+use Rattle.store.specs.Log.{record_at}
+
+from : (buffer : List ℕ) (a n : ℕ) → first_chunks 25 n (drop (25 * a) buffer) ≡ map (record_at buffer) (range_with_len a n)
+from buffer a zero = refl
+from buffer a (suc n) =
+    let step : 25 * a + 25 ≡ 25 * (a + 1) = omega arith in
+    let rest : drop 25 (drop (25 * a) buffer) ≡ drop (25 * (a + 1)) buffer = drop-drop 25 (25 * a) buffer ∙ ap (λ k. drop k buffer) step in
+    ap (λ l. record_at buffer a ∷ l) (ap (first_chunks 25 n) rest ∙ from buffer (a + 1) n)
+
+pub chunks_are : (buffer : List ℕ) (n : ℕ) → first_chunks 25 n buffer ≡ map (record_at buffer) (range_with_len 0 n)
+chunks_are buffer n = from buffer 0 n
