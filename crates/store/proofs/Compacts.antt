@@ -25,9 +25,6 @@ pub record Pass (old bytes : List ℕ) (n place end : ℕ) : Type 0 where
   pub behind : end ≤ place
   pub long : length bytes ≡ length old
 
-pub pass_none : (old : List ℕ) (n : ℕ) → Pass old old n 0 0
-pass_none old n = record { rest = refl; front = refl; count = zero-add _; behind = omega arith; long = refl }
-
 next : (old bytes : List ℕ) (place : ℕ) → drop (25 * place) bytes ≡ drop (25 * place) old → drop (25 * (place + 1)) bytes ≡ drop (25 * (place + 1)) old
 next old bytes place same =
     let step : 25 * place + 25 ≡ 25 * (place + 1) = omega arith in

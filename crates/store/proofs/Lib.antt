@@ -11,5 +11,4 @@ mod Passes
 mod Places
 mod RecordLaws
 mod RoundTrip
-mod Shifts
 mod TableLaws

@@ -14,8 +14,8 @@ use Rattle.store.specs.Log.{checked, used, records, record_at, sound, item_of, v
 use Rattle.store.proofs.Images.{full, length_image, length_joined, used_image, records_image, image_push, image_is}
 use Rattle.store.proofs.Lasts.{last_by_append, last_by_map, last_by_kept, all_kept, length_kept, or_cond}
 use Rattle.store.proofs.Made.{nth_made, set_made, map_same}
-use Rattle.store.proofs.Passes.{all_from, all_push}
-use Rattle.store.proofs.RecordLaws.{fulls, sound_item, sound_more, all_of, record_item}
+use Rattle.store.proofs.Passes.{all_of, all_from, all_push}
+use Rattle.store.proofs.RecordLaws.{fulls, sound_item, sound_more, record_item}
 use Rattle.store.proofs.RoundTrip.{Fits, unpacked_packed}
 
 -- what a buffer that is not refused shows

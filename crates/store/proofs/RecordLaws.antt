@@ -11,7 +11,7 @@ use Rattle.store.proofs.Compacts.{firsts, Pass, pass_all}
 use Rattle.store.proofs.Images.{full, length_image, firsts_image}
 use Rattle.store.proofs.Lasts.{all_kept, last_place_more, last_by_same, last_by_within, noted}
 use Rattle.store.proofs.Numbers.{length_bytes_of, number_in_bytes_of}
-use Rattle.store.proofs.Passes.{all_made, all_made_at}
+use Rattle.store.proofs.Passes.{all_of, all_made, all_made_at}
 use Rattle.store.proofs.Places.{length_part, part_over_same, part_over_other}
 
 -- a sound record has a tag and an item
@@ -22,11 +22,6 @@ sound_tag count r h =
 
 pub sound_item : (count : ℕ) (r : List ℕ) → sound count r ≡ true → ltb (item_of r) count ≡ true
 sound_item count r h = (and_parts (headed r) (ltb (item_of r) count) h).1
-
-pub all_of : (p q : List ℕ → Bool) → ((r : List ℕ) → p r ≡ true → q r ≡ true) → (rs : List (List ℕ)) → list_all p rs ≡ true → list_all q rs ≡ true
-all_of p q so [] all = refl
-all_of p q so (r ∷ rs) all =
-    let parts = and_parts (p r) (list_all p rs) all in and_from (q r) (list_all q rs) (so r parts.0) (all_of p q so rs parts.1)
 
 pub sound_more : (few most : ℕ) (rs : List (List ℕ)) → few ≤ most → list_all (sound few) rs ≡ true → list_all (sound most) rs ≡ true
 sound_more few most rs within all =
