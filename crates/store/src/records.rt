@@ -117,8 +117,8 @@ impl Area<'_> {
         ensures wide { length result ≡ 256 }
     {
         let mut latest = [None; MOST_ITEMS];
-        for place in 0..used {
-            note(&mut latest, item_of(self.record_at(place)), place);
+        for (place, record) in places(self.bytes)[..used].iter().enumerate() {
+            note(&mut latest, item_of(record), place);
         }
         latest
     }
