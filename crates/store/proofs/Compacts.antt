@@ -1,8 +1,6 @@
 -- Compaction, record by record. Assumes nothing.
-use Rattle.std.proofs.Common.{◌≡◌, ℕ, ◌+◌, ◌*◌, ◌<◌, ◌≤◌, true, false, eqb, List, [], ◌++◌, map, length, take, drop, Some, None, Option, sym, refl, ap, ◌∙◌, subst, zero-add, arith}
+use Rattle.std.proofs.Common.{◌≡◌, ℕ, ◌+◌, ◌*◌, ◌<◌, ◌≤◌, List, [], ◌++◌, map, length, take, drop, Some, sym, refl, ap, ◌∙◌, subst, zero-add, arith}
 use Rattle.std.specs.List.{range_with_len, flat_map}
-use Rattle.std.specs.Option.{option_eq}
-use Rattle.std.proofs.lemmas.Bool.{true≢false, eqb-true, eq-eqb}
 use Rattle.std.proofs.lemmas.List.FromFn.{length-map-range_with_len}
 use Rattle.std.proofs.lemmas.List.{append_assoc, append-nil, drop-drop, drop_all}
 use Rattle.store.specs.Bytes.{part, over}
@@ -78,14 +76,6 @@ pass_keep old bytes n place end p below fits last =
       behind = omega arith;
       long = length_over (25 * end) r bytes (omega arith) ∙ long;
     }
-
--- whether an entry of the index names a place
-pub names : (entry : Option ℕ) (place : ℕ) → option_eq eqb entry (Some place) ≡ true → entry ≡ Some place
-names None place e = absurd (true≢false (sym e))
-names (Some k) place e = ap Some (eqb-true k place e)
-
-pub names_not : (entry : Option ℕ) (place : ℕ) → option_eq eqb entry (Some place) ≡ false → entry ≡ Some place → ⊥
-names_not entry place e is = true≢false (sym (eq-eqb place place refl) ∙ ap (λ o. option_eq eqb o (Some place)) (sym is) ∙ e)
 
 -- the same under other names
 pub pass_at :

@@ -1,5 +1,5 @@
 // The log's records: one tagged field each, with the item and the packed version.
-ghost use Rattle.std.specs.Prelude.{◌≡◌, ℕ, ◌+◌, ◌*◌, ◌/◌, ◌<◌, ◌≤◌, ◌&&◌, true, not, map, length, Some, None, ◌==◌, nat_eq, nat_lt, slice_index, slice_index_or, slice_set};
+ghost use Rattle.std.specs.Prelude.{◌≡◌, ℕ, ◌+◌, ◌*◌, ◌/◌, ◌<◌, ◌≤◌, ◌&&◌, true, not, map, length, Some, None, ◌==◌, nat_eq, nat_lt, slice_index, slice_index_or, slice_set, MatchBool, ◌≢◌};
 ghost use Rattle.std.specs.List.{range_with_len, list_all, prefix_len};
 ghost use Rattle.store.specs.Bytes.{over};
 ghost use Rattle.store.specs.Log.{record_size, record_of, item_of, version_of, version_from, headed, sound, record_at, records, used as used_in, last_place, kept, image};
@@ -98,6 +98,13 @@ fn note(latest: &mut [Option<u16>; MOST_ITEMS], item: Item, place: usize)
     ensures { latest.new ≡ slice_set latest.old item (Some place) }
 {
     latest[item as usize] = Some(place as u16);
+}
+
+// Whether an entry of the index names a place.
+fn names(entry: Option<u16>, place: usize) -> bool
+    ensures { MatchBool result (entry ≡ Some place) (entry ≢ Some place) }
+{
+    entry.is_some_and(|last| last as usize == place)
 }
 
 impl Area<'_> {
@@ -202,9 +209,9 @@ impl<'a> Records<'a> {
         let (used, latest) = (self.used, self.latest);
         let area = &mut self.area;
         let mut end = 0;
+        // by number, since a record moves while the others are still to come
         for place in 0..used {
-            let last = latest[item_of(area.record_at(place)) as usize];
-            if last == Some(place as u16) {
+            if names(latest[item_of(area.record_at(place)) as usize], place) {
                 area.shift(RECORD * place, RECORD * end, RECORD);
                 end += 1;
             }
