@@ -5,12 +5,6 @@ use Rattle.store.proofs.LogLaws.{Grown, good_from, from_good, grows}
 use Rattle.store.proofs.Made.{set_made_past}
 use Rattle.store.proofs.logs.LogStore.put.Goals as goal
 
-pub push-requires : goal.push-requires
-push-requires c =
-    let held = c.make_room.new.self.good (omega arith) in
-    let good = good_from c.make_room.new.self.records.area.bytes.now c.make_room.new.self.count held.0 in
-    record { there = omega (arith, c.args.self.now.few); room = c.make_room.ensures.room; short = good.short }
-
 -- what the new record leaves
 grown : (c : goal.After-push) → Grown c.make_room.new.self.records.area.bytes.now c.push.new.self.area.bytes.now c.make_room.new.self.count c.args.item c.make_room.new.self.records.used c.args.version
 grown c =

@@ -7,13 +7,6 @@ use Rattle.store.proofs.Places.{length_over, over_new}
 use Rattle.store.proofs.TableLaws.{table_put}
 use Rattle.store.proofs.tables.TableStore.put.Goals as goal
 
-pub invariant_of-self : goal.invariant_of-self
-invariant_of-self c =
-    let long =
-    ap length (over_new (20 * c.args.item) c.args.self.now.area.bytes.now c.write.ensures c.pack.ensures)
-    ∙ length_over (20 * c.args.item) (packed c.args.version) c.args.self.now.area.bytes.now (omega arith) in
-    record { few = omega arith; fits = omega (arith, long) }
-
 pub returns-then-item-self : goal.returns-then-item-self
 returns-then-item-self c =
     let known = over_new (20 * c.args.item) c.args.self.now.area.bytes.now c.write.ensures c.pack.ensures in
