@@ -219,6 +219,8 @@ pub record Shrunk (b after : List ℕ) (count m : ℕ) : Type 0 where
   pub good : Good after count
   pub counts : m ≡ used after
   pub is : after ≡ compacted b
+  pub same : log after count ≡ log b count
+  pub room : 25 * (m + 1) ≤ length after
 
 pub shrinks :
     (b after : List ℕ) (count n m : ℕ) → Good b count → n ≡ used b
@@ -228,10 +230,13 @@ pub shrinks :
 shrinks b after count n m g is made counted =
     let comp = compaction b count g in
     let same : after ≡ compacted b = made ∙ ap (λ k. image (kept (map (record_at b) (range_with_len 0 k))) (length b)) is in
+    let counts : m ≡ used after = counted ∙ ap (λ k. length (kept (map (record_at b) (range_with_len 0 k)))) is ∙ sym comp.fewer ∙ ap used (sym same) in
     record {
       good = subst (λ l. Good l count) (sym same) comp.good;
-      counts = counted ∙ ap (λ k. length (kept (map (record_at b) (range_with_len 0 k)))) is ∙ sym comp.fewer ∙ ap used (sym same);
+      counts = counts;
       is = same;
+      same = ap (λ l. log l count) same ∙ comp.same;
+      room = omega (arith, comp.frees, comp.long, ap length same, ap used same, counts);
     }
 
 -- and after a record more

@@ -1,7 +1,7 @@
-use Rattle.std.proofs.Common.{◌+◌, ◌*◌, ltb, length, sym, refl, ap, ◌∙◌, arith}
+use Rattle.std.proofs.Common.{◌+◌, ◌*◌, ltb, length, sym, ap, ◌∙◌, arith}
 use Rattle.std.proofs.lemmas.Bool.{cond-true}
 use Rattle.store.specs.Log.{log, used}
-use Rattle.store.proofs.LogLaws.{Shrunk, good_from, from_good, compaction, shrinks}
+use Rattle.store.proofs.LogLaws.{Shrunk, good_from, from_good, shrinks}
 use Rattle.store.proofs.logs.Log.make_room.Goals as goal
 
 -- what the compaction leaves
@@ -16,19 +16,15 @@ invariant_of-self c =
     let done = shrunk c in
     record { few = c.args.self.now.few; good = λ _. (from_good _ _ done.good, done.counts) }
 
-pub returns-then-is_full : goal.returns-then-is_full
-returns-then-is_full c =
+pub returns-then-is_full-clause-bytes : goal.returns-then-is_full-clause-bytes
+returns-then-is_full-clause-bytes c =
     let b = c.args.self.now.records.area.bytes.now in
     let held = c.args.self.now.good c.requires in
-    let comp = compaction b c.args.self.now.count (good_from b c.args.self.now.count held.0) in
-    let done =
-    shrinks b c.compact.new.self.area.bytes.now c.args.self.now.count c.args.self.now.records.used c.compact.new.self.used
-    (good_from b c.args.self.now.count held.0) held.1 c.compact.ensures.bytes c.compact.ensures.used in
-    record {
-      bytes =
-          done.is
-          ∙ sym (cond-true _ _ b (ap (λ n. ltb (length b) (25 * (n + 1))) (sym held.1) ∙ sym c.is_full.ensures ∙ c.if-is_full.true));
-      items = refl;
-      versions = ap (λ l. log l c.args.self.now.count) done.is ∙ comp.same;
-      room = omega (arith, comp.frees, comp.long, ap length done.is, ap used done.is, done.counts);
-    }
+    (shrunk c.before).is
+    ∙ sym (cond-true _ _ b (ap (λ n. ltb (length b) (25 * (n + 1))) (sym held.1) ∙ sym c.is_full.ensures ∙ c.if-is_full.true))
+
+pub returns-then-is_full-clause-versions : goal.returns-then-is_full-clause-versions
+returns-then-is_full-clause-versions c = (shrunk c.before).same
+
+pub returns-then-is_full-clause-room : goal.returns-then-is_full-clause-room
+returns-then-is_full-clause-room c = (shrunk c.before).room
