@@ -24,7 +24,7 @@ impl From<Fault> for u8 {
 }
 
 impl Fault {
-    // What the refusal means, for a program that has no writer to print it to.
+    // What the refusal means. Unlike printing it, this needs no writer and cannot fail.
     pub fn meaning(self) -> &'static str
         ensures { result.now ≡ meaning_of self }
     {

@@ -136,6 +136,7 @@ impl Area<'_> {
 pub(crate) struct Records<'a> {
     pub(crate) area: Area<'a>,
     used: usize,
+    // an entry for each item that there may be, since a store has no heap
     latest: [Option<u16>; MOST_ITEMS],
     ghost fits: { record_size * used ≤ length area.bytes.now },
     ghost short: { used ≤ 65536 },
@@ -209,7 +210,7 @@ impl<'a> Records<'a> {
         let (used, latest) = (self.used, self.latest);
         let area = &mut self.area;
         let mut end = 0;
-        // by number, since a record moves while the others are still to come
+        // Counted: records move within the buffer, so none is lent while the places are walked.
         for place in 0..used {
             if names(latest[item_of(area.record_at(place)) as usize], place) {
                 area.shift(RECORD * place, RECORD * end, RECORD);

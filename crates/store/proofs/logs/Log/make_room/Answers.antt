@@ -1,6 +1,5 @@
-use Rattle.std.proofs.Common.{◌+◌, ◌*◌, ltb, length, sym, ap, ◌∙◌, arith}
+use Rattle.std.proofs.Common.{◌+◌, ◌*◌, ltb, length, sym, ap, ◌∙◌}
 use Rattle.std.proofs.lemmas.Bool.{cond-true}
-use Rattle.store.specs.Log.{log, used}
 use Rattle.store.proofs.LogLaws.{Shrunk, good_from, from_good, shrinks}
 use Rattle.store.proofs.logs.Log.make_room.Goals as goal
 
