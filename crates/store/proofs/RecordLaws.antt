@@ -83,19 +83,19 @@ pushed b after latest item n v room below wide sounds index made =
     }
 
 -- compaction, once every record is looked at and the rest is zeroed
-pub record Compacted (old after : List ℕ) (n end : ℕ) : Type 0 where
+pub record Sifted (old after : List ℕ) (n end : ℕ) : Type 0 where
   pub bytes : after ≡ image (kept (firsts old n)) (length old)
   pub used : end ≡ length (kept (firsts old n))
   pub sounds : list_all (sound 256) (firsts after end) ≡ true
   pub fits : 25 * end ≤ length after
 
-pub compacted :
+pub sifted :
     (old bytes after : List ℕ) (n place end : ℕ)
     → Pass old bytes n place end → n ≤ place → place ≤ n → 25 * n ≤ length old
     → list_all (sound 256) (firsts old n) ≡ true
     → after ≡ take (25 * end) bytes ++ replicate (length bytes - 25 * end) 0
-    → Compacted old after n end
-compacted old bytes after n place end p done within fits sounds cleared =
+    → Sifted old after n end
+sifted old bytes after n place end p done within fits sounds cleared =
     let all = pass_all old bytes n place end p done in
     let rs : List (List ℕ) = kept (firsts old n) in
     let whole = all_kept full (firsts old n) (fulls old 256 n fits sounds) in
