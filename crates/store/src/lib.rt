@@ -50,6 +50,7 @@ pub trait Store {
     fn put(&mut self, item: Item, version: Version)
         ensures { versions self.new ≡ slice_set (versions self.old) item version };
 
+    // A law: no store has more items.
     ghost few: { (s : Self) → length (versions s) ≤ 256 };
 }
 

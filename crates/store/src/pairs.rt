@@ -1,6 +1,5 @@
 // Two stores side by side: the first one's items, and then the second one's, as far as a store may have them.
-ghost use Rattle.std.specs.Prelude.{◌≡◌, ◌<◌, ◌≤◌, List, ◌++◌, length, slice_set};
-ghost use Rattle.std.specs.List.{slice_get};
+ghost use Rattle.std.specs.Prelude.{◌≡◌, ◌<◌, ◌≤◌, length, slice_set};
 ghost use Rattle.store.specs.Few.{few_pair};
 ghost use Rattle.store.specs.Pair.{pair, Located};
 

@@ -2,7 +2,7 @@
 ghost use Rattle.std.specs.Prelude.{◌≡◌, ℕ, ◌+◌, ◌*◌, ◌/◌, ◌<◌, ◌≤◌, ◌&&◌, true, not, map, length, Some, None, ◌==◌, nat_eq, nat_lt, slice_index, slice_index_or, slice_set, MatchBool, ◌≢◌};
 ghost use Rattle.std.specs.List.{range_with_len, list_all, prefix_len};
 ghost use Rattle.store.specs.Bytes.{over};
-ghost use Rattle.store.specs.Log.{record_size, record_of, item_of, version_of, version_from, headed, sound, record_at, records, used as used_in, last_place, kept, image};
+ghost use Rattle.store.specs.Log.{record_size, record_of, item_of, version_of, version_from, sound, record_at, records, used as used_in, last_place, kept, image};
 
 use crate::areas::Area;
 use crate::{Item, MOST_ITEMS, Version, packed};

@@ -1,6 +1,5 @@
 // The table: one record of fixed length for each item, one after the other in a lent buffer.
-ghost use Rattle.std.specs.Prelude.{◌≡◌, ◌*◌, ◌<◌, ◌≤◌, List, length, slice_set};
-ghost use Rattle.std.specs.List.{slice_get};
+ghost use Rattle.std.specs.Prelude.{◌≡◌, ◌*◌, ◌<◌, ◌≤◌, length, slice_set};
 ghost use Rattle.store.specs.Packed.{version_size};
 ghost use Rattle.store.specs.Few.{few_made};
 ghost use Rattle.store.specs.Table.{table, version_at, after_put, checked, opened};
