@@ -18,7 +18,7 @@ pub fn refusal(heap: Global, refusal: Refusal) -> Result<String, AllocError> {
 pub fn opened(heap: Global, res: Result<(), Fault>) -> Result<String, AllocError> {
     match res {
         Ok(()) => String::from_str(heap, "0"),
-        Err(fault) => refused(heap, fault.number(), fault.meaning()),
+        Err(fault) => refused(heap, u8::from(fault), fault.meaning()),
     }
 }
 

@@ -1,5 +1,5 @@
 -- Compaction, record by record. Assumes nothing.
-use Rattle.std.proofs.Common.{◌≡◌, ℕ, ◌+◌, ◌*◌, ◌<◌, ◌≤◌, List, [], ◌++◌, map, length, take, drop, Some, sym, refl, ap, ◌∙◌, subst, zero-add, arith}
+use Rattle.std.proofs.Common.{◌≡◌, ℕ, ◌+◌, ◌*◌, ◌<◌, ◌≤◌, List, [], ◌++◌, map, length, take, drop, Some, sym, ap, ◌∙◌, subst, arith}
 use Rattle.std.specs.List.{range_with_len, flat_map}
 use Rattle.std.proofs.lemmas.List.FromFn.{length-map-range_with_len}
 use Rattle.std.proofs.lemmas.List.{append_assoc, append-nil, drop-drop, drop_all}
@@ -22,9 +22,6 @@ pub record Pass (old bytes : List ℕ) (n place end : ℕ) : Type 0 where
   pub count : end + length (kept (drop place (firsts old n))) ≡ length (kept (firsts old n))
   pub behind : end ≤ place
   pub long : length bytes ≡ length old
-
-pub pass_none : (old : List ℕ) (n : ℕ) → Pass old old n 0 0
-pass_none old n = record { rest = refl; front = refl; count = zero-add _; behind = omega arith; long = refl }
 
 next : (old bytes : List ℕ) (place : ℕ) → drop (25 * place) bytes ≡ drop (25 * place) old → drop (25 * (place + 1)) bytes ≡ drop (25 * (place + 1)) old
 next old bytes place same =

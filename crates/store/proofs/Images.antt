@@ -62,10 +62,12 @@ used_image rs size all room =
     eqb-false _ 0 (not-true _ parts.1) (sym tag ∙ e))
     (λ _. past_image rs size (25 * length rs) all (omega arith))
 
+pub firsts_image : (rs : List (List ℕ)) (size : ℕ) → list_all full rs ≡ true → map (record_at (image rs size)) (range_with_len 0 (length rs)) ≡ rs
+firsts_image rs size all = sym (fill_by_all (record_at (image rs size)) rs (length rs) [] refl (λ k below. sym (record_at_image rs size k all below)))
+
 pub records_image : (rs : List (List ℕ)) (size : ℕ) → list_all full rs ≡ true → 25 * length rs ≤ size → records (image rs size) ≡ rs
 records_image rs size all room =
-    ap (λ n. map (record_at (image rs size)) (range_with_len 0 n)) (used_image rs size all room)
-    ∙ sym (fill_by_all (record_at (image rs size)) rs (length rs) [] refl (λ k below. sym (record_at_image rs size k all below)))
+    ap (λ n. map (record_at (image rs size)) (range_with_len 0 n)) (used_image rs size all room) ∙ firsts_image rs size all
 
 pub joined_push : (rs : List (List ℕ)) (r : List ℕ) → flat_map (λ x. x) (rs ++ r ∷ []) ≡ flat_map (λ x. x) rs ++ r
 joined_push rs r = sym (flat_map_more (λ x. x) [] rs r)

@@ -1,3 +1,4 @@
+mod Chunks
 mod Compacts
 mod Ends
 mod Images
@@ -8,6 +9,6 @@ mod Numbers
 mod PairLaws
 mod Passes
 mod Places
+mod RecordLaws
 mod RoundTrip
-mod Shifts
 mod TableLaws

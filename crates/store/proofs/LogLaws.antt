@@ -1,23 +1,21 @@
 -- What a log that may be opened is, and what it is after a record more and after compaction. Assumes nothing.
-use Rattle.std.proofs.Common.{◌≡◌, ℕ, ◌+◌, ◌-◌, ◌*◌, ◌/◌, ◌<◌, ◌≤◌, Bool, true, false, cond, not, ◌||◌, eqb, ltb, List, [], ◌∷◌, ◌++◌, map, length, get_or, drop, set, replicate, is_ok, Some, None, Option, sym, refl, ap, ◌∙◌, subst, inl, arith}
+use Rattle.std.proofs.Common.{◌≡◌, ℕ, ◌+◌, ◌-◌, ◌*◌, ◌/◌, ◌<◌, ◌≤◌, Bool, true, false, cond, not, ◌||◌, eqb, ltb, List, [], ◌∷◌, ◌++◌, map, length, get_or, drop, set, replicate, is_ok, Some, None, Option, sym, refl, ap, ◌∙◌, subst, arith}
 use Rattle.std.specs.List.{range_with_len, list_all, flat_map, slice_get}
 use Rattle.std.specs.Option.{option_map}
 use Rattle.std.proofs.lemmas.List.FromFn.{length-map-range_with_len}
-use Rattle.std.proofs.lemmas.List.{take_at, drop_at, get_or-replicate, length-replicate, length_push}
+use Rattle.std.proofs.lemmas.List.{drop_at, get_or-replicate, length-replicate, length_push}
 use Rattle.std.proofs.lemmas.List.Sums.{prefix_len-le-length}
-use Rattle.std.proofs.lemmas.Bool.{true≢false, cond-true, cond-false, and_parts, and_from, or_parts, or_from, not_from_true, eqb-true, eqb-false, eq-eqb, ne_eqb, ltb-true, ltb-false, lt-ltb, le-ltb}
+use Rattle.std.proofs.lemmas.Bool.{true≢false, cond-true, cond-false, or_parts, or_from, not_from_true, eqb-false, eq-eqb, ne_eqb, ltb-false, lt-ltb, le-ltb}
 use Rattle.store.specs.declared.Version.{Version}
 use Rattle.store.specs.declared.faults.Fault.TheVariants.{Count, Length, Record, Trailing}
-use Rattle.store.specs.Bytes.{over, number_in, bytes_of}
+use Rattle.store.specs.Bytes.{over}
 use Rattle.store.specs.Faults.{first_of}
-use Rattle.store.specs.Log.{checked, used, records, record_at, sound, headed, item_of, version_of, version_from, zero_version, record_of, last_by, last_place, log, kept, image, compacted, appended}
-use Rattle.store.specs.Packed.{packed}
+use Rattle.store.specs.Log.{checked, used, records, record_at, sound, item_of, version_of, version_from, zero_version, record_of, last_by, last_place, log, kept, image, compacted, appended}
 use Rattle.store.proofs.Images.{full, length_image, length_joined, used_image, records_image, image_push, image_is}
-use Rattle.store.proofs.Lasts.{last_by_append, last_by_map, last_by_kept, all_kept, length_kept, or_cond, last_place_more, last_by_same, last_by_within, noted}
+use Rattle.store.proofs.Lasts.{last_by_append, last_by_map, last_by_kept, all_kept, length_kept, or_cond}
 use Rattle.store.proofs.Made.{nth_made, set_made, map_same}
-use Rattle.store.proofs.Numbers.{length_bytes_of, number_in_bytes_of}
-use Rattle.store.proofs.Passes.{all_from, all_made, all_made_at, all_push}
-use Rattle.store.proofs.Places.{length_part, part_over_same, part_over_other}
+use Rattle.store.proofs.Passes.{all_of, all_from, all_push}
+use Rattle.store.proofs.RecordLaws.{fulls, sound_item, sound_more, record_item}
 use Rattle.store.proofs.RoundTrip.{Fits, unpacked_packed}
 
 -- what a buffer that is not refused shows
@@ -88,28 +86,6 @@ used_fits b =
     let long = length-map-range_with_len (record_at b) 0 (length b / 25) in
     omega (arith, prefix_len-le-length (λ r. not (eqb (get_or r 0 0) 0)) (map (record_at b) (range_with_len 0 (length b / 25))))
 
--- a sound record has a tag and an item
-sound_tag : (count : ℕ) (r : List ℕ) → sound count r ≡ true → get_or r 0 0 ≡ 82
-sound_tag count r h =
-    let parts = and_parts (headed r) (ltb (item_of r) count) h in
-    eqb-true (get_or r 0 0) 82 (and_parts (eqb (get_or r 0 0) 82) _ parts.0).0
-
-pub sound_item : (count : ℕ) (r : List ℕ) → sound count r ≡ true → ltb (item_of r) count ≡ true
-sound_item count r h = (and_parts (headed r) (ltb (item_of r) count) h).1
-
-all_of : (p q : List ℕ → Bool) → ((r : List ℕ) → p r ≡ true → q r ≡ true) → (rs : List (List ℕ)) → list_all p rs ≡ true → list_all q rs ≡ true
-all_of p q so [] all = refl
-all_of p q so (r ∷ rs) all =
-    let parts = and_parts (p r) (list_all p rs) all in and_from (q r) (list_all q rs) (so r parts.0) (all_of p q so rs parts.1)
-
-pub fulls : (b : List ℕ) (count : ℕ) → Good b count → list_all full (records b) ≡ true
-fulls b count g =
-    let fits = used_fits b in
-    all_made full (record_at b) (used b) (λ k below.
-    let tag = sound_tag count (record_at b k) (all_made_at (sound count) (record_at b) (used b) k g.sounds below) in
-    and_from _ _ (eq-eqb _ 25 (length_part (25 * k) 25 b (omega arith)))
-    (ap not (ne_eqb _ 0 (λ e. omega (arith, tag, e)))))
-
 pub is_image : (b : List ℕ) (count : ℕ) → Good b count → b ≡ image (records b) (length b)
 is_image b count g = image_is b (used b) g.zeroes
 
@@ -164,7 +140,7 @@ pub record Compacted (b : List ℕ) (count : ℕ) : Type 0 where
 pub compaction : (b : List ℕ) (count : ℕ) → Good b count → Compacted b count
 compaction b count g =
     let rs : List (List ℕ) = kept (records b) in
-    let whole = all_kept full (records b) (fulls b count g) in
+    let whole = all_kept full (records b) (fulls b count (used b) (used_fits b) g.sounds) in
     let sounds = all_kept (sound count) (records b) g.sounds in
     let least = length_kept count (records b) (all_of (sound count) (λ r. ltb (item_of r) count) (sound_item count) (records b) g.sounds) in
     let room = g.room in
@@ -185,9 +161,6 @@ compaction b count g =
     }
 
 -- one record more
-record_item : (item : ℕ) (v : Version) → item < 65536 → item_of (record_of item v) ≡ item
-record_item item v small = ap number_in (take_at (bytes_of 2 item) (packed v) 2 (length_bytes_of 2 item)) ∙ number_in_bytes_of 2 item small
-
 record_version : (item : ℕ) (v : Version) → Fits 4 v → version_of (record_of item v) ≡ v
 record_version item v small = unpacked_packed 4 v small
 
@@ -196,7 +169,6 @@ pub record Appended (b : List ℕ) (count item : ℕ) (v : Version) : Type 0 whe
   pub more : used (appended item v b) ≡ used b + 1
   pub long : length (appended item v b) ≡ length b
   pub after : log (appended item v b) count ≡ set (log b count) item v
-  pub place : (i : ℕ) → last_place (appended item v b) (used b + 1) i ≡ cond (eqb item i) (Some (used b)) (last_place b (used b) i)
 
 pub appending :
     (b : List ℕ) (count item : ℕ) (v : Version) → Good b count → item < count → 25 * (used b + 1) ≤ length b → Fits 4 v
@@ -208,12 +180,12 @@ appending b count item v g below room small =
     let n : length (records b) ≡ used b = length-map-range_with_len (record_at b) 0 (used b) in
     let pushed : length rs ≡ used b + 1 = length_push (records b) r ∙ omega arith in
     let item-is : item_of r ≡ item = record_item item v (omega arith) in
-    let whole : list_all full rs ≡ true = all_push full (records b) r (fulls b count g) refl in
+    let whole : list_all full rs ≡ true = all_push full (records b) r (fulls b count (used b) (used_fits b) g.sounds) refl in
     let sounds : list_all (sound count) rs ≡ true = all_push (sound count) (records b) r g.sounds (ap (λ k. ltb k count) item-is ∙ lt-ltb item count below) in
     let is : appended item v b ≡ image rs (length b) =
     ap (λ l. over (25 * used b) r l) (is_image b count g)
     ∙ ap (λ k. over (25 * k) r (image (records b) (length b))) (sym n)
-    ∙ image_push (records b) r (length b) (fulls b count g) refl in
+    ∙ image_push (records b) r (length b) (fulls b count (used b) (used_fits b) g.sounds) refl in
     let back : records (appended item v b) ≡ rs = ap records is ∙ records_image rs (length b) whole (omega arith) in
     let count-is : used (appended item v b) ≡ used b + 1 = ap used is ∙ used_image rs (length b) whole (omega arith) ∙ pushed in
     let last : (i : ℕ) → last_by item_of i rs ≡ cond (eqb item i) (Some r) (last_by item_of i (records b)) =
@@ -228,37 +200,27 @@ appending b count item v g below room small =
           set_made (λ i. version_from b (last_place b (used b) i)) (λ i. version_from (appended item v b) (last_place (appended item v b) (used (appended item v b)) i)) count item v
           (λ _. meaning item ∙ ap from_last (cond-true _ (Some r) (last_by item_of item (records b)) (eq-eqb item item refl)) ∙ record_version item v small)
           (λ i _ apart. meaning i ∙ ap from_last (cond-false _ (Some r) (last_by item_of i (records b)) (ne_eqb item i (λ e. apart (sym e)))) ∙ sym (version_is b i));
-      place = λ i.
-          last_place_more (appended item v b) (used b) i
-          ∙ ap (λ l. cond (eqb (item_of l) i) (Some (used b)) (last_place (appended item v b) (used b) i)) (part_over_same (25 * used b) r b (omega arith))
-          ∙ ap (λ k. cond (eqb k i) (Some (used b)) (last_place (appended item v b) (used b) i)) item-is
-          ∙ ap (cond (eqb item i) (Some (used b)))
-          (last_by_same (λ k. item_of (record_at (appended item v b) k)) (λ k. item_of (record_at b k)) i 0 (used b)
-          (λ k h. ap item_of (part_over_other (25 * k) 25 (25 * used b) r b (omega arith) (inl (omega arith)))));
     }
 
--- the item of each record is one that there is
-pub item_below : (b : List ℕ) (count k : ℕ) → Good b count → k < used b → item_of (record_at b k) < count
-item_below b count k g below =
-    ltb-true _ count (sound_item count (record_at b k) (all_made_at (sound count) (record_at b) (used b) k g.sounds below))
+-- a log's items are the most that a store may have, at most
+pub most : (b : List ℕ) (count : ℕ) → Good b count → list_all (sound 256) (records b) ≡ true
+most b count g = sound_more count 256 (records b) g.few g.sounds
 
--- an item's version, by the index
+-- an item's version, by the place of its last record
 pub log_get :
-    (b : List ℕ) (count item n : ℕ) (o : Option ℕ) → item < count → n ≡ used b → o ≡ last_place b n item
-    → slice_get (log b count) item ≡ Some (version_from b o)
-log_get b count item n o below is at =
+    (b : List ℕ) (count item n : ℕ) → item < count → n ≡ used b
+    → slice_get (log b count) item ≡ Some (version_from b (last_place b n item))
+log_get b count item n below is =
     nth_made (λ i. version_from b (last_place b (used b) i)) count item below
-    ∙ ap (λ p. Some (version_from b p)) (ap (λ k. last_place b k item) (sym is) ∙ sym at)
-
-pub last_fits : (b : List ℕ) (n item place : ℕ) → n ≡ used b → last_place b n item ≡ Some place → 25 * (place + 1) ≤ length b
-last_fits b n item place is at =
-    omega (arith, used_fits b, (last_by_within (λ k. item_of (record_at b k)) item 0 n place at).1)
+    ∙ ap (λ k. Some (version_from b (last_place b k item))) (sym is)
 
 -- what holds after a compaction, in the words of the code
 pub record Shrunk (b after : List ℕ) (count m : ℕ) : Type 0 where
   pub good : Good after count
   pub counts : m ≡ used after
   pub is : after ≡ compacted b
+  pub same : log after count ≡ log b count
+  pub room : 25 * (m + 1) ≤ length after
 
 pub shrinks :
     (b after : List ℕ) (count n m : ℕ) → Good b count → n ≡ used b
@@ -268,42 +230,33 @@ pub shrinks :
 shrinks b after count n m g is made counted =
     let comp = compaction b count g in
     let same : after ≡ compacted b = made ∙ ap (λ k. image (kept (map (record_at b) (range_with_len 0 k))) (length b)) is in
+    let counts : m ≡ used after = counted ∙ ap (λ k. length (kept (map (record_at b) (range_with_len 0 k)))) is ∙ sym comp.fewer ∙ ap used (sym same) in
     record {
       good = subst (λ l. Good l count) (sym same) comp.good;
-      counts = counted ∙ ap (λ k. length (kept (map (record_at b) (range_with_len 0 k)))) is ∙ sym comp.fewer ∙ ap used (sym same);
+      counts = counts;
       is = same;
+      same = ap (λ l. log l count) same ∙ comp.same;
+      room = omega (arith, comp.frees, comp.long, ap length same, ap used same, counts);
     }
 
 -- and after a record more
-pub record Grown (b after : List ℕ) (latest : List (Option ℕ)) (count item n : ℕ) (v : Version) : Type 0 where
+pub record Grown (b after : List ℕ) (count item n : ℕ) (v : Version) : Type 0 where
   pub good : Good after count
   pub counts : n + 1 ≡ used after
   pub is : after ≡ appended item v b
-  pub index : (i : ℕ) → i < count → get_or (set latest item (Some n)) i None ≡ last_place after (n + 1) i
   pub versions : log after count ≡ set (log b count) item v
 
 pub grows :
-    (b after : List ℕ) (latest : List (Option ℕ)) (count item n : ℕ) (v : Version)
-    → Good b count → n ≡ used b → item < count → 25 * (n + 1) ≤ length b → Fits 4 v → count ≤ length latest
-    → ((i : ℕ) → i < count → get_or latest i None ≡ last_place b n i)
+    (b after : List ℕ) (count item n : ℕ) (v : Version)
+    → Good b count → n ≡ used b → item < count → 25 * (n + 1) ≤ length b → Fits 4 v
     → after ≡ over (25 * n) (record_of item v) b
-    → Grown b after latest count item n v
-grows b after latest count item n v g is below room small wide index made =
+    → Grown b after count item n v
+grows b after count item n v g is below room small made =
     let app = appending b count item v g below (omega arith) small in
     let same : after ≡ appended item v b = made ∙ ap (λ k. over (25 * k) (record_of item v) b) is in
     record {
       good = subst (λ l. Good l count) (sym same) app.good;
       counts = omega (arith, app.more, ap used same);
       is = same;
-      index = λ i h. noted latest item n i (last_place b n i) (last_place after (n + 1) i) (omega arith) (index i h) (last i);
       versions = ap (λ l. log l count) same ∙ app.after;
     }
-  where
-    last : (i : ℕ) → last_place after (n + 1) i ≡ cond (eqb item i) (Some n) (last_place b n i)
-    last i =
-        let app = appending b count item v g below (omega arith) small in
-        let same : after ≡ appended item v b = made ∙ ap (λ k. over (25 * k) (record_of item v) b) is in
-        ap (λ l. last_place l (n + 1) i) same
-        ∙ ap (λ k. last_place (appended item v b) (k + 1) i) is
-        ∙ app.place i
-        ∙ ap (λ k. cond (eqb item i) (Some k) (last_place b k i)) (sym is)

@@ -25,24 +25,38 @@ nth_right [] ys i past = ap (slice_get ys) (omega arith)
 nth_right (x ∷ xs) ys zero past = absurd (omega arith)
 nth_right (x ∷ xs) ys (suc i) past = nth_right xs ys i (omega arith) ∙ ap (slice_get ys) (omega arith)
 
-pub nth_pair_first : {X : Type 0} (xs ys : List X) (i : ℕ) → length xs ≤ 256 → i < length xs → slice_get (pair xs ys) i ≡ slice_get xs i
-nth_pair_first xs ys i few below = nth_take 256 i (xs ++ ys) (omega arith) ∙ nth_left xs ys i below
+-- an item of the first store, at its place there, and one of the second
+pub nth_pair_first :
+    {X : Type 0} (xs ys : List X) (i place : ℕ) → length xs ≤ 256 → (place ≡ i) × (i < length xs)
+    → slice_get xs place ≡ slice_get (pair xs ys) i
+nth_pair_first xs ys i place few at =
+    ap (slice_get xs) at.0 ∙ sym (nth_take 256 i (xs ++ ys) (omega (arith, at.1)) ∙ nth_left xs ys i at.1)
 
-pub nth_pair_second : {X : Type 0} (xs ys : List X) (i : ℕ) → length xs ≤ i → i < 256 → slice_get (pair xs ys) i ≡ slice_get ys (i - length xs)
-nth_pair_second xs ys i past below = nth_take 256 i (xs ++ ys) below ∙ nth_right xs ys i past
+pub nth_pair_second :
+    {X : Type 0} (xs ys : List X) (i place : ℕ) → (length xs + place ≡ i) × (i < 256)
+    → slice_get ys place ≡ slice_get (pair xs ys) i
+nth_pair_second xs ys i place at =
+    sym (nth_take 256 i (xs ++ ys) at.1 ∙ nth_right xs ys i (omega (arith, at.0)) ∙ ap (slice_get ys) (omega (arith, at.0)))
 
 pub nth_pair_past : {X : Type 0} (xs ys : List X) (i : ℕ) → 256 ≤ i → slice_get (pair xs ys) i ≡ None
 nth_pair_past xs ys i past = slice_get_past (pair xs ys) i (omega (arith, length_pair xs ys))
 
+-- the same, after a put there
 pub set_pair_first :
-    {X : Type 0} (xs ys : List X) (i : ℕ) (x : X) → length xs ≤ 256 → i < length xs → pair (set xs i x) ys ≡ set (pair xs ys) i x
-set_pair_first xs ys i x few below =
-    ap (take 256) (sym (set-append_left xs ys i x below)) ∙ take-set-lt 256 (xs ++ ys) i x (omega arith)
+    {X : Type 0} (xs ys after : List X) (i place : ℕ) (x : X) → length xs ≤ 256 → (place ≡ i) × (i < length xs)
+    → after ≡ set xs place x → pair after ys ≡ set (pair xs ys) i x
+set_pair_first xs ys after i place x few at put =
+    ap (λ l. pair l ys) (put ∙ ap (λ k. set xs k x) at.0)
+    ∙ ap (take 256) (sym (set-append_left xs ys i x at.1))
+    ∙ take-set-lt 256 (xs ++ ys) i x (omega (arith, at.1))
 
 pub set_pair_second :
-    {X : Type 0} (xs ys : List X) (i : ℕ) (x : X) → length xs ≤ i → i < 256 → pair xs (set ys (i - length xs) x) ≡ set (pair xs ys) i x
-set_pair_second xs ys i x past below =
-    ap (take 256) (sym (set-append_right xs ys (length xs) i x refl past)) ∙ take-set-lt 256 (xs ++ ys) i x below
+    {X : Type 0} (xs ys after : List X) (i place : ℕ) (x : X) → (length xs + place ≡ i) × (i < 256)
+    → after ≡ set ys place x → pair xs after ≡ set (pair xs ys) i x
+set_pair_second xs ys after i place x at put =
+    ap (pair xs) (put ∙ ap (λ k. set ys k x) (omega (arith, at.0)))
+    ∙ ap (take 256) (sym (set-append_right xs ys (length xs) i x refl (omega (arith, at.0))))
+    ∙ take-set-lt 256 (xs ++ ys) i x at.1
 
 pub set_pair_past : {X : Type 0} (xs ys : List X) (i : ℕ) (x : X) → 256 ≤ i → set (pair xs ys) i x ≡ pair xs ys
 set_pair_past xs ys i x past = set_past (pair xs ys) i x (omega (arith, length_pair xs ys))

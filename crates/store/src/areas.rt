@@ -22,9 +22,7 @@ impl Area<'_> {
         requires { (to ≤ from) × (from + size ≤ length self.old.bytes.now) }
         ensures { self.new.bytes.now ≡ over to (part from size self.old.bytes.now) self.old.bytes.now }
     {
-        for i in 0..size {
-            self.bytes[to + i] = self.bytes[from + i];
-        }
+        self.bytes.copy_within(from..from + size, to);
     }
 
     // Zeroes every byte from a place on.
@@ -32,9 +30,6 @@ impl Area<'_> {
         requires { from ≤ length self.old.bytes.now }
         ensures { self.new.bytes.now ≡ take from self.old.bytes.now ++ replicate (length self.old.bytes.now - from) 0 }
     {
-        let size = self.bytes.len() - from;
-        for i in 0..size {
-            self.bytes[from + i] = 0;
-        }
+        self.bytes[from..].fill(0);
     }
 }

@@ -25,7 +25,7 @@ pub type Value = u32;
 pub type Stamp = u64;
 
 // A parameter's value, the stamp of the transaction that wrote it, and the largest stamp of a settled committed reader.
-#[derive(Clone, Copy, PartialEq, Eq, Debug)]
+#[derive(Clone, Copy, Default, PartialEq, Eq, Debug)]
 pub struct Version {
     pub value: Value,
     pub twrite: Stamp,
@@ -41,8 +41,6 @@ pub const MOST_BYTES: usize = 65536;
 pub trait Store {
     ghost versions: { Self → List Version };
 
-    ghost few: { (s : Self) → length (versions s) ≤ 256 };
-
     fn count(&self) -> u16
         ensures { result ≡ length (versions self.now) };
 
@@ -51,6 +49,9 @@ pub trait Store {
 
     fn put(&mut self, item: Item, version: Version)
         ensures { versions self.new ≡ slice_set (versions self.old) item version };
+
+    // A law: no store has more items.
+    ghost few: { (s : Self) → length (versions s) ≤ 256 };
 }
 
 #[cfg(test)]

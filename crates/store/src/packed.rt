@@ -26,34 +26,11 @@ pub(crate) fn pack(version: Version) -> [u8; SIZE]
 pub(crate) fn unpack(bytes: &[u8]) -> Option<Version>
     ensures { result ≡ (if nat_eq (length bytes.now) version_size then Some (unpackedOf bytes.now) else None) }
 {
-    let [
-        v0,
-        v1,
-        v2,
-        v3,
-        w0,
-        w1,
-        w2,
-        w3,
-        w4,
-        w5,
-        w6,
-        w7,
-        r0,
-        r1,
-        r2,
-        r3,
-        r4,
-        r5,
-        r6,
-        r7,
-    ] = bytes
-    else {
-        return None;
-    };
+    let (value, stamps) = bytes.split_first_chunk()?;
+    let (twrite, tread) = stamps.split_first_chunk()?;
     Some(Version {
-        value: Value::from_be_bytes([*v0, *v1, *v2, *v3]),
-        twrite: Stamp::from_be_bytes([*w0, *w1, *w2, *w3, *w4, *w5, *w6, *w7]),
-        tread: Stamp::from_be_bytes([*r0, *r1, *r2, *r3, *r4, *r5, *r6, *r7]),
+        value: Value::from_be_bytes(*value),
+        twrite: Stamp::from_be_bytes(*twrite),
+        tread: Stamp::from_be_bytes(*tread.as_array()?),
     })
 }

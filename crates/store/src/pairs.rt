@@ -1,6 +1,5 @@
 // Two stores side by side: the first one's items, and then the second one's, as far as a store may have them.
-ghost use Rattle.std.specs.Prelude.{◌≡◌, ◌<◌, ◌≤◌, List, ◌++◌, length, slice_set};
-ghost use Rattle.std.specs.List.{slice_get};
+ghost use Rattle.std.specs.Prelude.{◌≡◌, ◌<◌, ◌≤◌, length, slice_set};
 ghost use Rattle.store.specs.Few.{few_pair};
 ghost use Rattle.store.specs.Pair.{pair, Located};
 
@@ -16,7 +15,6 @@ pub struct Pair<A: Store, B: Store> {
 enum Half {
     First(Item),
     Second(Item),
-    Past,
 }
 
 impl<A: Store, B: Store> Pair<A, B> {
@@ -48,45 +46,17 @@ impl<A: Store, B: Store> Pair<A, B> {
         (first, second)
     }
 
-    fn half(&self, item: Item) -> Half
+    // None past the last place that a store may have.
+    fn half(&self, item: Item) -> Option<Half>
         ensures { Located (length (A.Store.versions self.now.first)) item result }
     {
         let seam = self.first.count();
         if item < seam {
-            Half::First(item)
+            Some(Half::First(item))
         } else if (item as usize) < MOST_ITEMS {
-            Half::Second(item - seam)
+            Some(Half::Second(item - seam))
         } else {
-            Half::Past
-        }
-    }
-
-    fn items(&self) -> u16
-        ensures { result ≡ length (pair (A.Store.versions self.now.first) (B.Store.versions self.now.second)) }
-    {
-        (self.first.count() + self.second.count()).min(MOST_ITEMS as u16)
-    }
-
-    fn read(&self, item: Item) -> Option<Version>
-        ensures { result ≡ slice_get (pair (A.Store.versions self.now.first) (B.Store.versions self.now.second)) item }
-    {
-        match self.half(item) {
-            Half::First(place) => self.first.get(place),
-            Half::Second(place) => self.second.get(place),
-            Half::Past => None,
-        }
-    }
-
-    fn write(&mut self, item: Item, version: Version)
-        ensures versions { pair (A.Store.versions self.new.first) (B.Store.versions self.new.second) ≡ slice_set (pair (A.Store.versions self.old.first) (B.Store.versions self.old.second)) item version }
-        ensures first { length (A.Store.versions self.old.first) ≤ item → self.new.first ≡ self.old.first }
-        ensures second { item < length (A.Store.versions self.old.first) → self.new.second ≡ self.old.second }
-        ensures past { 256 ≤ item → self.new.second ≡ self.old.second }
-    {
-        match self.half(item) {
-            Half::First(place) => self.first.put(place, version),
-            Half::Second(place) => self.second.put(place, version),
-            Half::Past => {}
+            None
         }
     }
 }
@@ -97,11 +67,14 @@ impl<A: Store, B: Store> Store for Pair<A, B> {
     ghost few = { λ p. few_pair (A.Store.versions p.first) (B.Store.versions p.second) };
 
     fn count(&self) -> u16 {
-        self.items()
+        (self.first.count() + self.second.count()).min(MOST_ITEMS as u16)
     }
 
     fn get(&self, item: Item) -> Option<Version> {
-        self.read(item)
+        match self.half(item)? {
+            Half::First(place) => self.first.get(place),
+            Half::Second(place) => self.second.get(place),
+        }
     }
 
     // Beside the versions: at most one of the two is put to, and past the last place none.
@@ -111,6 +84,10 @@ impl<A: Store, B: Store> Store for Pair<A, B> {
         ensures second { item < length (A.Store.versions self.old.first) → self.new.second ≡ self.old.second }
         ensures past { 256 ≤ item → self.new.second ≡ self.old.second }
     {
-        self.write(item, version);
+        match self.half(item) {
+            Some(Half::First(place)) => self.first.put(place, version),
+            Some(Half::Second(place)) => self.second.put(place, version),
+            None => {}
+        }
     }
 }

@@ -1,13 +1,12 @@
 // The table: one record of fixed length for each item, one after the other in a lent buffer.
-ghost use Rattle.std.specs.Prelude.{◌≡◌, ◌*◌, ◌<◌, ◌≤◌, List, length, slice_set};
-ghost use Rattle.std.specs.List.{slice_get};
+ghost use Rattle.std.specs.Prelude.{◌≡◌, ◌*◌, ◌<◌, ◌≤◌, length, slice_set};
 ghost use Rattle.store.specs.Packed.{version_size};
 ghost use Rattle.store.specs.Few.{few_made};
 ghost use Rattle.store.specs.Table.{table, version_at, after_put, checked, opened};
 
 use crate::areas::Area;
 use crate::faults::Fault;
-use crate::{Item, MOST_BYTES, MOST_ITEMS, Store, Version, packed};
+use crate::{Item, Store, Version, faults, packed};
 
 // A record is a packed version.
 const RECORD: usize = packed::SIZE;
@@ -25,13 +24,8 @@ impl<'a> Table<'a> {
     pub fn check(bytes: &[u8], count: usize) -> Result<(), Fault>
         ensures { result ≡ checked bytes.now count }
     {
-        if count == 0 || count > MOST_ITEMS {
-            return Err(Fault::Count);
-        }
-        if bytes.len() > MOST_BYTES || bytes.len() < RECORD * count {
-            return Err(Fault::Length);
-        }
-        Ok(())
+        faults::check_count(count)?;
+        faults::check_length(bytes, RECORD * count)
     }
 
     // Opened in spite of a refusal, a table has no items, and so it never writes.
@@ -55,33 +49,6 @@ impl<'a> Table<'a> {
     {
         self.area.bytes
     }
-
-    fn items(&self) -> u16
-        ensures { result ≡ length (table self.now.area.bytes.now self.now.count) }
-    {
-        self.count
-    }
-
-    fn read(&self, item: Item) -> Option<Version>
-        ensures { result ≡ slice_get (table self.now.area.bytes.now self.now.count) item }
-    {
-        if item >= self.count {
-            return None;
-        }
-        let at = RECORD * item as usize;
-        packed::unpack(&self.area.bytes[at..at + RECORD])
-    }
-
-    fn write(&mut self, item: Item, version: Version)
-        ensures versions { table self.new.area.bytes.now self.new.count ≡ slice_set (table self.old.area.bytes.now self.old.count) item version }
-        ensures bytes { self.new.area.bytes.now ≡ after_put self.old.area.bytes.now self.old.count item version }
-        ensures items { self.new.count ≡ self.old.count }
-    {
-        if item < self.count {
-            self.area
-                .write(RECORD * item as usize, &packed::pack(version));
-        }
-    }
 }
 
 impl Store for Table<'_> {
@@ -90,11 +57,15 @@ impl Store for Table<'_> {
     ghost few = { λ t. few_made (version_at t.area.bytes.now) t.count t.few };
 
     fn count(&self) -> u16 {
-        self.items()
+        self.count
     }
 
     fn get(&self, item: Item) -> Option<Version> {
-        self.read(item)
+        if item >= self.count {
+            return None;
+        }
+        let at = RECORD * item as usize;
+        packed::unpack(&self.area.bytes[at..at + RECORD])
     }
 
     // Beside the versions: what every byte of the buffer is.
@@ -103,6 +74,9 @@ impl Store for Table<'_> {
         ensures bytes { self.new.area.bytes.now ≡ after_put self.old.area.bytes.now self.old.count item version }
         ensures items { self.new.count ≡ self.old.count }
     {
-        self.write(item, version);
+        if item < self.count {
+            self.area
+                .write(RECORD * item as usize, &packed::pack(version));
+        }
     }
 }

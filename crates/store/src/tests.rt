@@ -54,6 +54,13 @@ fn table_edges(rt: HostRuntime) {
     }
 }
 
+fn valued(value: u32) -> Version {
+    Version {
+        value,
+        ..Version::default()
+    }
+}
+
 // The record's bytes, highest first, and no byte beside them.
 #[test]
 fn table_bytes(rt: HostRuntime) {
@@ -80,23 +87,16 @@ fn table_last_item(rt: HostRuntime) {
     let mut table = Table::open(&mut bytes, 256);
     table.put(255, ONE);
     assert_eq!(rt; table.get(255), Some(ONE));
-    assert_eq!(rt;
-        table.get(254),
-        Some(Version {
-            value: 0,
-            twrite: 0,
-            tread: 0,
-        })
-    );
+    assert_eq!(rt; table.get(254), Some(Version::default()));
     assert_eq!(rt; table.get(256), None);
 }
 
 #[test]
 fn fault_numbers(rt: HostRuntime) {
-    assert_eq!(rt; Fault::Count.number(), 30);
-    assert_eq!(rt; Fault::Length.number(), 31);
-    assert_eq!(rt; Fault::Record.number(), 32);
-    assert_eq!(rt; Fault::Trailing.number(), 33);
+    assert_eq!(rt; u8::from(Fault::Count), 30);
+    assert_eq!(rt; u8::from(Fault::Length), 31);
+    assert_eq!(rt; u8::from(Fault::Record), 32);
+    assert_eq!(rt; u8::from(Fault::Trailing), 33);
 }
 
 // A log's record of an item, with the value in its last byte.
@@ -206,45 +206,16 @@ fn log_compacts(rt: HostRuntime) -> Result<(), Fail> {
 fn log_bytes(rt: HostRuntime) {
     let mut bytes = [0; 60];
     let mut log = Log::open(&mut bytes, 1);
-    log.put(
-        0,
-        Version {
-            value: 1,
-            twrite: 0,
-            tread: 0,
-        },
-    );
-    log.put(
-        0,
-        Version {
-            value: 2,
-            twrite: 0,
-            tread: 0,
-        },
-    );
+    log.put(0, valued(1));
+    log.put(0, valued(2));
     assert!(rt; log.bytes().len() == 60);
     assert_eq!(rt; &log.bytes()[0..25], record(0, 1).as_slice());
     assert_eq!(rt; &log.bytes()[25..50], record(0, 2).as_slice());
-    log.put(
-        0,
-        Version {
-            value: 3,
-            twrite: 0,
-            tread: 0,
-        },
-    );
+    log.put(0, valued(3));
     assert!(rt; log.bytes().len() == 60);
     assert_eq!(rt; &log.bytes()[0..25], record(0, 2).as_slice());
     assert_eq!(rt; &log.bytes()[25..50], record(0, 3).as_slice());
     assert_eq!(rt; &log.bytes()[50..60], [0; 10].as_slice());
-}
-
-fn valued(value: u32) -> Option<Version> {
-    Some(Version {
-        value,
-        twrite: 0,
-        tread: 0,
-    })
 }
 
 // 100 items three times: cut off at 256, where the 57th of the last store would stand.
@@ -252,16 +223,9 @@ fn nested<A: Store + Drop, B: Store + Drop, C: Store + Drop>(rt: &impl Abort, a:
     let mut pair = Pair::new(Pair::new(a, b), c);
     assert_eq!(rt; pair.count(), 256);
     for item in [0, 99, 100, 199, 200, 255] {
-        assert_eq!(rt; pair.get(item), valued(0));
-        pair.put(
-            item,
-            Version {
-                value: item as u32 + 1,
-                twrite: 0,
-                tread: 0,
-            },
-        );
-        assert_eq!(rt; pair.get(item), valued(item as u32 + 1));
+        assert_eq!(rt; pair.get(item), Some(valued(0)));
+        pair.put(item, valued(item as u32 + 1));
+        assert_eq!(rt; pair.get(item), Some(valued(item as u32 + 1)));
     }
     pair.put(256, ONE);
     assert_eq!(rt; pair.get(256), None);
@@ -269,10 +233,10 @@ fn nested<A: Store + Drop, B: Store + Drop, C: Store + Drop>(rt: &impl Abort, a:
     assert_eq!(rt; pair.second().count(), 100);
     let (inner, last) = pair.into_parts();
     let (first, second) = inner.into_parts();
-    assert_eq!(rt; first.get(99), valued(100));
-    assert_eq!(rt; second.get(0), valued(101));
-    assert_eq!(rt; last.get(55), valued(256));
-    assert_eq!(rt; last.get(56), valued(0));
+    assert_eq!(rt; first.get(99), Some(valued(100)));
+    assert_eq!(rt; second.get(0), Some(valued(101)));
+    assert_eq!(rt; last.get(55), Some(valued(256)));
+    assert_eq!(rt; last.get(56), Some(valued(0)));
 }
 
 #[test]

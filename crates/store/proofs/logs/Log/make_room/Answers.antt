@@ -1,30 +1,29 @@
-use Rattle.std.proofs.Common.{◌≡◌, ℕ, ◌+◌, ◌*◌, ltb, List, length, sym, ap, ◌∙◌, arith}
+use Rattle.std.proofs.Common.{◌+◌, ◌*◌, ltb, length, sym, ap, ◌∙◌}
 use Rattle.std.proofs.lemmas.Bool.{cond-true}
-use Rattle.store.specs.Log.{log, used}
-use Rattle.store.proofs.LogLaws.{good_from, used_fits, compaction}
+use Rattle.store.proofs.LogLaws.{Shrunk, good_from, from_good, shrinks}
 use Rattle.store.proofs.logs.Log.make_room.Goals as goal
 
-pub is_full-requires : goal.is_full-requires
-is_full-requires c =
-    let b : List ℕ = c.args.self.now.area.bytes.now in
+-- what the compaction leaves
+shrunk : (c : goal.After-compact) → Shrunk c.args.self.now.records.area.bytes.now c.compact.new.self.area.bytes.now c.args.self.now.count c.compact.new.self.used
+shrunk c =
     let held = c.args.self.now.good c.requires in
-    omega (arith, used_fits b, held.1, (good_from b c.args.self.now.count held.0).short)
+    shrinks c.args.self.now.records.area.bytes.now c.compact.new.self.area.bytes.now c.args.self.now.count c.args.self.now.records.used c.compact.new.self.used
+    (good_from _ _ held.0) held.1 c.compact.ensures.bytes c.compact.ensures.used
 
-pub returns-then-is_full : goal.returns-then-is_full
-returns-then-is_full c =
-    let b : List ℕ = c.args.self.now.area.bytes.now in
-    let after : List ℕ = c.compact.new.self.area.bytes.now in
-    let count : ℕ = c.args.self.now.count in
+pub invariant_of-self : goal.invariant_of-self
+invariant_of-self c =
+    let done = shrunk c in
+    record { few = c.args.self.now.few; good = λ _. (from_good _ _ done.good, done.counts) }
+
+pub returns-then-is_full-clause-bytes : goal.returns-then-is_full-clause-bytes
+returns-then-is_full-clause-bytes c =
+    let b = c.args.self.now.records.area.bytes.now in
     let held = c.args.self.now.good c.requires in
-    let comp = compaction b count (good_from b count held.0) in
-    let same : after ≡ _ = c.compact.ensures.bytes in
-    let pos = c.requires in
-    let items = c.compact.ensures.items in
-    record {
-      bytes =
-          same
-          ∙ sym (cond-true _ _ b (ap (λ n. ltb (length b) (25 * (n + 1))) (sym held.1) ∙ sym c.is_full.ensures ∙ c.if-is_full.true));
-      items = items;
-      versions = ap (λ k. log after k) items ∙ ap (λ l. log l count) same ∙ comp.same;
-      room = omega (arith, comp.frees, comp.long, ap length same, ap used same, (c.compact.new.self.good (omega arith)).1);
-    }
+    (shrunk c.before).is
+    ∙ sym (cond-true _ _ b (ap (λ n. ltb (length b) (25 * (n + 1))) (sym held.1) ∙ sym c.is_full.ensures ∙ c.if-is_full.true))
+
+pub returns-then-is_full-clause-versions : goal.returns-then-is_full-clause-versions
+returns-then-is_full-clause-versions c = (shrunk c.before).same
+
+pub returns-then-is_full-clause-room : goal.returns-then-is_full-clause-room
+returns-then-is_full-clause-room c = (shrunk c.before).room
