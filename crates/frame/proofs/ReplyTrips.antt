@@ -1,6 +1,6 @@
 -- Each reply has one frame. Assumes nothing.
-use Rattle.std.proofs.Common.{◌≡◌, ℕ, ◌<◌, false, eqb, List, [], ◌∷◌, ◌++◌, length, Ok, Err, Result, sym, refl, ap, ◌∙◌, subst, ⊎_elim, append-nil, arith}
-use Rattle.std.proofs.lemmas.Bool.{cond-false}
+use Rattle.std.proofs.Common.{◌≡◌, ◌≢◌, ℕ, ◌<◌, false, eqb, List, [], ◌∷◌, ◌++◌, length, Ok, Err, Result, sym, refl, ap, ◌∙◌, subst, ⊎_elim, append-nil, arith}
+use Rattle.std.proofs.lemmas.Bool.{cond-false, ne_eqb}
 use Rattle.service.specs.declared.calls.Call.{Call}
 use Rattle.service.specs.declared.calls.Call.TheVariants.{Begin, Read, Close}
 use Rattle.service.specs.declared.calls.Answer.{Answer}
@@ -9,6 +9,7 @@ use Rattle.service.specs.declared.refusals.Refusal.{Refusal}
 use Rattle.service.specs.declared.refusals.Refusal.TheVariants.{UnknownTool, WrongState, UnknownItem, TooManyEntries, TickTooLarge, CounterSpent, NoEntry, HasToken, VersionChanged, BehindWrite, WriteBetween, BehindRead, ReadStands, NotCertified, NoToken}
 use Rattle.service.specs.Refusals.{number}
 use Rattle.frame.specs.declared.faults.Fault.{Fault}
+use Rattle.frame.specs.declared.faults.Fault.TheVariants.{Unknown}
 use Rattle.frame.specs.declared.kinds.Kind.TheVariants as kind
 use Rattle.frame.specs.Fields.{field, bind}
 use Rattle.frame.specs.Requests.{ended}
@@ -46,6 +47,18 @@ number_first n (s ∷ rs) r h = ⊎_elim (λ (e, k). let same : s ≡ r = cc in 
 number_with : (n : ℕ) (r : Refusal) → refusal_with n ≡ Ok r → number r ≡ n
 unfolding refusal_with
 number_with n r h = number_first n refusals r h
+
+-- what the conversion of a number answers
+pub refusal_is : (n : ℕ) (r : Refusal) → number r ≡ n → refusal_with n ≡ Ok r
+refusal_is n r is = rw (← is) (numbered r).comes
+
+none_first : (n : ℕ) (rs : List Refusal) → ((r : Refusal) → number r ≢ n) → first_with n rs ≡ Err Unknown
+none_first n [] absent = refl
+none_first n (r ∷ rs) absent = cond-false _ _ _ (ne_eqb _ _ (absent r)) ∙ none_first n rs absent
+
+pub refusal_none : (n : ℕ) → ((r : Refusal) → number r ≢ n) → refusal_with n ≡ Err Unknown
+unfolding refusal_with
+refusal_none n absent = none_first n refusals absent
 
 -- reading what was written
 

@@ -3,7 +3,7 @@ ghost use Rattle.std.specs.Prelude.{◌≡◌, ◌≤◌, take, IfOk, Ok};
 ghost use Rattle.service.specs.declared.calls.Call.{Call as Asked};
 ghost use Rattle.frame.specs.Fields.{Reads};
 ghost use Rattle.frame.specs.Drafts.{contents, longest_reply, written};
-ghost use Rattle.frame.specs.Replies.{reply_of, first_with, refusal_with, gives, taken_answer, read_reply, Suits, ReplyFits, RepliesOneFrame};
+ghost use Rattle.frame.specs.Replies.{reply_of, gives, taken_answer, read_reply, Suits, ReplyFits, RepliesOneFrame};
 
 use crate::drafts::Draft;
 use crate::faults::Fault;
@@ -13,24 +13,6 @@ use service::{Answer, Call, Refusal};
 
 // The answer of an accepted call; any other is the number of a refusal.
 const ACCEPTED: u8 = 0;
-
-const REFUSALS: [Refusal; 15] = [
-    Refusal::UnknownTool,
-    Refusal::WrongState,
-    Refusal::UnknownItem,
-    Refusal::TooManyEntries,
-    Refusal::TickTooLarge,
-    Refusal::CounterSpent,
-    Refusal::NoEntry,
-    Refusal::HasToken,
-    Refusal::VersionChanged,
-    Refusal::BehindWrite,
-    Refusal::WriteBetween,
-    Refusal::BehindRead,
-    Refusal::ReadStands,
-    Refusal::NotCertified,
-    Refusal::NoToken,
-];
 
 // What a tool is told of its call.
 pub type Reply = Result<Answer, Refusal>;
@@ -50,7 +32,7 @@ fn draft(reply: Reply) -> Draft
                 Answer::Stamp(stamp) => frame.put(Kind::Stamp, stamp),
             }
         }
-        Err(refusal) => frame.put(Kind::Answer, u64::from(refusal.number())),
+        Err(refusal) => frame.put(Kind::Answer, u64::from(u8::from(refusal))),
     }
     frame
 }
@@ -62,24 +44,6 @@ pub fn write_reply(reply: Reply, buffer: &mut [u8]) -> Result<usize, Fault>
     ensures back { IfOk result (λ n. (c : Asked) → Suits c reply → read_reply c (take n buffer.new) ≡ Ok reply) }
 {
     draft(reply).copy_to(buffer)
-}
-
-// The first of these refusals with that number.
-fn first_with(number: u8, refusals: &[Refusal]) -> Result<Refusal, Fault>
-    ensures { result ≡ first_with number refusals.now }
-{
-    for refusal in refusals {
-        if refusal.number() == number {
-            return Ok(*refusal);
-        }
-    }
-    Err(Fault::Unknown)
-}
-
-fn refusal(number: u8) -> Result<Refusal, Fault>
-    ensures { result ≡ refusal_with number }
-{
-    first_with(number, &REFUSALS)
 }
 
 // What an accepted call gives.
@@ -116,7 +80,7 @@ pub fn read_reply(call: Call, frame: &[u8]) -> Result<Reply, Fault>
         fields.end()?;
         Ok(Ok(answer))
     } else {
-        let refusal = refusal(number)?;
+        let refusal = Refusal::try_from(number)?;
         fields.end()?;
         Ok(Err(refusal))
     }

@@ -13,10 +13,7 @@ const READ: [u8; 13] = [0x54, 0, 1, 2, 0x43, 0, 1, 2, 0x49, 0, 2, 0, 7];
 const HEADS: [usize; 4] = [0, 4, 8, 13];
 
 fn fault(frame: &[u8]) -> Option<Fault> {
-    match read_request(frame) {
-        Ok(_) => None,
-        Err(fault) => Some(fault),
-    }
+    read_request(frame).err()
 }
 
 // A frame with one bit of one byte turned; it is turned back.
@@ -50,10 +47,8 @@ fn good(rt: &impl Abort, request: Request, fields: usize, length: usize) -> Resu
     assert_eq!(rt; bytes[length], 0xEE);
     assert_eq!(rt; fault(&bytes[0..length + 1]), Some(Fault::Trailing));
     let mut again = [0; 20];
-    match read_request(&bytes[0..length]) {
-        Ok(call) => assert_eq!(rt; write_request(Request::of(call), &mut again), Ok(length)),
-        Err(fault) => return Err(Fail::new(fault.meaning())),
-    }
+    let call = read_request(&bytes[0..length])?;
+    assert_eq!(rt; write_request(Request::of(call), &mut again), Ok(length));
     assert_eq!(rt; &again[0..length], &bytes[0..length]);
     if length > 0 {
         assert_eq!(rt;
@@ -212,10 +207,10 @@ fn replies(rt: HostRuntime) {
 
 #[test]
 fn fault_numbers(rt: HostRuntime) {
-    assert_eq!(rt; Fault::Cut.number(), 20);
-    assert_eq!(rt; Fault::Tag.number(), 21);
-    assert_eq!(rt; Fault::Length.number(), 22);
-    assert_eq!(rt; Fault::Unknown.number(), 23);
-    assert_eq!(rt; Fault::Trailing.number(), 24);
-    assert_eq!(rt; Fault::Room.number(), 25);
+    assert_eq!(rt; u8::from(Fault::Cut), 20);
+    assert_eq!(rt; u8::from(Fault::Tag), 21);
+    assert_eq!(rt; u8::from(Fault::Length), 22);
+    assert_eq!(rt; u8::from(Fault::Unknown), 23);
+    assert_eq!(rt; u8::from(Fault::Trailing), 24);
+    assert_eq!(rt; u8::from(Fault::Room), 25);
 }
