@@ -6,14 +6,14 @@ use Rattle.frame.specs.declared.kinds.Kind.{Kind}
 use Rattle.frame.specs.declared.kinds.Kind.TheVariants.{Tool, Call, Item, Value, Tick, Stamp, Answer}
 use Rattle.frame.specs.Fields.{tag, width, taken}
 
-pub some_width : (k : Kind) → 0 < width k
-some_width Tool = omega arith
-some_width Call = omega arith
-some_width Item = omega arith
-some_width Value = omega arith
-some_width Tick = omega arith
-some_width Stamp = omega arith
-some_width Answer = omega arith
+pub some_width : (k : Kind) → (0 < width k) × (width k ≤ 8)
+some_width Tool = (omega arith, omega arith)
+some_width Call = (omega arith, omega arith)
+some_width Item = (omega arith, omega arith)
+some_width Value = (omega arith, omega arith)
+some_width Tick = (omega arith, omega arith)
+some_width Stamp = (omega arith, omega arith)
+some_width Answer = (omega arith, omega arith)
 
 pub found :
     (k : Kind) (frame : List ℕ)
