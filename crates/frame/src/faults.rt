@@ -1,7 +1,7 @@
 // Why a frame is refused.
 ghost use Rattle.std.specs.Prelude.{◌≡◌, Some};
 ghost use Rattle.frame.specs.declared.faults.Fault.TheVariants.{Unknown};
-ghost use Rattle.frame.specs.Faults.{number, meaning};
+ghost use Rattle.frame.specs.Faults.{number, meaning as meaning_of};
 
 use service::UnknownRefusal;
 use std::error::Error;
@@ -15,6 +15,22 @@ pub enum Fault {
     Unknown = 23,
     Trailing = 24,
     Room = 25,
+}
+
+impl Fault {
+    // The text alone, for a program that has no writer to print it to.
+    pub fn meaning(self) -> &'static str
+        ensures { result.now ≡ meaning_of self }
+    {
+        match self {
+            Fault::Cut => "the frame ends inside a field",
+            Fault::Tag => "a field has another tag",
+            Fault::Length => "a field has another length",
+            Fault::Unknown => "no call or answer has that number",
+            Fault::Trailing => "bytes are left over after the last field",
+            Fault::Room => "the buffer is too short",
+        }
+    }
 }
 
 impl From<Fault> for u8 {
@@ -34,17 +50,10 @@ impl From<UnknownRefusal> for Fault {
 }
 
 impl fmt::Display for Fault {
-    ghost output = { λ fault. Some (meaning fault) };
+    ghost output = { λ fault. Some (meaning_of fault) };
 
     fn fmt<W: fmt::Write>(&self, f: &mut fmt::Formatter<W>) -> fmt::Result {
-        f.write_str(match self {
-            Fault::Cut => "the frame ends inside a field",
-            Fault::Tag => "a field has another tag",
-            Fault::Length => "a field has another length",
-            Fault::Unknown => "no call or answer has that number",
-            Fault::Trailing => "bytes are left over after the last field",
-            Fault::Room => "the buffer is too short",
-        })
+        f.write_str(self.meaning())
     }
 }
 

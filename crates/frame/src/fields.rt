@@ -8,7 +8,7 @@ ghost use Rattle.frame.specs.Parts.{kind_of, content_of, Found};
 use crate::faults::Fault;
 use crate::kinds::Kind;
 
-// A field, whose content is a part of the frame.
+// A field, whose content is a part of the frame. A `Kind` beside it says what is expected before there is a content.
 #[derive(Clone, Copy)]
 pub(crate) enum Field<'a> {
     Tool(&'a [u8]),
@@ -90,7 +90,8 @@ pub(crate) struct Fields<'a> {
 }
 
 impl Fields<'_> {
-    // The number in the field of that kind, which fits the type that is as wide.
+    // The number in the field of that kind. It fits the type that is as wide, so callers cast it; a trait of the integers
+    // in place of the cast would say each width a second time.
     pub(crate) fn next(&mut self, kind: Kind) -> Result<u64, Fault>
         ensures takes { Reads (taken kind) self.old.rest.now result self.new.rest.now }
         ensures bound { IfOk result (λ n. n < 256 ^ width_of kind) }

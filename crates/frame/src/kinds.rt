@@ -9,8 +9,7 @@ const HEAD: usize = 3;
 
 // The longest request, that of a write, and the longest reply, that of a close.
 pub(crate) const LONGEST_REQUEST: usize = 4 * HEAD
-    + size_of::<u8>()
-    + size_of::<u8>()
+    + 2 * size_of::<u8>()
     + size_of::<Item>()
     + size_of::<Value>();
 

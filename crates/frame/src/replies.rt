@@ -23,10 +23,8 @@ impl From<Reply> for Draft {
 
     fn from(reply: Reply) -> Draft {
         let mut frame = Draft::new();
-        frame.put(
-            Kind::Answer,
-            u64::from(reply.map_or_else(u8::from, |_| ACCEPTED)),
-        );
+        let answer = reply.map_or_else(u8::from, |_| ACCEPTED);
+        frame.put(Kind::Answer, u64::from(answer));
         match reply {
             Ok(Answer::Value(value)) => frame.put(Kind::Value, u64::from(value)),
             Ok(Answer::Stamp(stamp)) => frame.put(Kind::Stamp, stamp),

@@ -1,6 +1,6 @@
 // Each refusal's number and what it means in words.
 ghost use Rattle.std.specs.Prelude.{◌≡◌, ◌++◌, Some, codes, decimal};
-ghost use Rattle.service.specs.Refusals.{number, meaning, rejects, Numbered};
+ghost use Rattle.service.specs.Refusals.{number, meaning as meaning_of, rejects, Numbered};
 
 use std::error::Error;
 use std::fmt;
@@ -30,6 +30,29 @@ pub enum Refusal {
 pub struct UnknownRefusal(pub u8);
 
 impl Refusal {
+    // The text alone, for a program that has no writer to print it to.
+    pub fn meaning(self) -> &'static str
+        ensures { result.now ≡ meaning_of self }
+    {
+        match self {
+            Refusal::UnknownTool => "no such tool",
+            Refusal::WrongState => "the tool's state does not allow it",
+            Refusal::UnknownItem => "no such item",
+            Refusal::TooManyEntries => "a ninth item in one transaction",
+            Refusal::TickTooLarge => "the tick is too large",
+            Refusal::CounterSpent => "the counters are spent",
+            Refusal::NoEntry => "the transaction does not use the item",
+            Refusal::HasToken => "the item is certified already",
+            Refusal::VersionChanged => "another version was read",
+            Refusal::BehindWrite => "a later write is in the store",
+            Refusal::WriteBetween => "a certified write lies between",
+            Refusal::BehindRead => "a later read was settled",
+            Refusal::ReadStands => "a later read is certified",
+            Refusal::NotCertified => "an item is not certified",
+            Refusal::NoToken => "the item has no token to settle",
+        }
+    }
+
     // Whether a certification was rejected, so that its tool has failed.
     pub fn is_rejection(self) -> bool
         ensures { result ≡ rejects self }
@@ -81,26 +104,10 @@ impl TryFrom<u8> for Refusal {
 }
 
 impl fmt::Display for Refusal {
-    ghost output = { λ refusal. Some (meaning refusal) };
+    ghost output = { λ refusal. Some (meaning_of refusal) };
 
     fn fmt<W: fmt::Write>(&self, f: &mut fmt::Formatter<W>) -> fmt::Result {
-        f.write_str(match self {
-            Refusal::UnknownTool => "no such tool",
-            Refusal::WrongState => "the tool's state does not allow it",
-            Refusal::UnknownItem => "no such item",
-            Refusal::TooManyEntries => "a ninth item in one transaction",
-            Refusal::TickTooLarge => "the tick is too large",
-            Refusal::CounterSpent => "the counters are spent",
-            Refusal::NoEntry => "the transaction does not use the item",
-            Refusal::HasToken => "the item is certified already",
-            Refusal::VersionChanged => "another version was read",
-            Refusal::BehindWrite => "a later write is in the store",
-            Refusal::WriteBetween => "a certified write lies between",
-            Refusal::BehindRead => "a later read was settled",
-            Refusal::ReadStands => "a later read is certified",
-            Refusal::NotCertified => "an item is not certified",
-            Refusal::NoToken => "the item has no token to settle",
-        })
+        f.write_str(self.meaning())
     }
 }
 
