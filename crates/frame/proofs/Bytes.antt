@@ -1,8 +1,9 @@
 -- Numbers and their bytes, once, over the width. Assumes nothing.
 use Rattle.std.proofs.Common.{◌≡◌, ℕ, zero, suc, ◌+◌, ◌-◌, ◌*◌, ◌/◌, ◌%◌, ◌^◌, ◌<◌, ◌≤◌, List, [], ◌∷◌, length, sym, refl, ap, ◌∙◌, mod-eq_of_lt, mul_assoc, add-mul, arith}
 use native.Mathlib.Nat.{pow-succ', mod-one, one-le-pow, mul-add-div_right, mul-add-mod_self_right}
-use lib.Arith.{mod-mul, digits_lt, digits_div}
-use Rattle.std.specs.Int.Digits.{number_from_digits_after}
+use lib.Arith.{mod-mul, digits_div}
+use Rattle.std.specs.Int.Digits.{number_from_digits_after, AllBelowBase}
+use Rattle.std.proofs.lemmas.Int.Digits.{number_lt}
 use borrow.Rule.Slice.PartMut.{put_mid}
 use Rattle.std.specs.Int.{w64, from_be_bytes}
 use Rattle.store.specs.Bytes.{number_in, bytes_of}
@@ -23,13 +24,12 @@ number_after n (d ∷ ds) =
     let r : n * 256 ^ suc (length ds) ≡ n * 256 * p = ap (λ x. n * x) q ∙ sym (mul_assoc n 256 p) in
     omega (arith, add-mul (n * 256) d p)
 
+digits : (bs : List ℕ) → Bytes bs → AllBelowBase 256 bs
+digits [] bytes = tt
+digits (b ∷ bs) bytes = (bytes 0, digits bs (λ i. bytes (suc i)))
+
 pub number_bound : (bs : List ℕ) → Bytes bs → number_in bs < 256 ^ length bs
-number_bound [] bytes = omega arith
-number_bound (b ∷ bs) bytes =
-    let e = number_after (0 + b) bs in
-    let d = digits_lt {q = 0 + b} {m = 256} (omega (arith, bytes 0)) (number_bound bs (λ i. bytes (suc i))) in
-    let q = pow-succ' 256 (length bs) in
-    omega arith
+number_bound bs bytes = number_lt 256 bs (digits bs bytes)
 
 mod_after : (width n : ℕ) → number_in (bytes_of width n) ≡ n % 256 ^ width
 mod_after zero n = sym (mod-one n)

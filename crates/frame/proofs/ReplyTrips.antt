@@ -41,7 +41,7 @@ numbered NotCertified = record { comes = refl; fits = omega arith; above = refl 
 numbered NoToken = record { comes = refl; fits = omega arith; above = refl }
 
 number_first : (n : ℕ) (rs : List Refusal) (r : Refusal) → first_with n rs ≡ Ok r → number r ≡ n
-number_first n [] r h = absurd (let z : ◌≡◌ {A = ℕ} 0 1 = cc in omega arith)
+number_first n [] r h = absurd (cc)
 number_first n (s ∷ rs) r h = ⊎_elim (λ (e, k). let same : s ≡ r = cc in ap number (sym same) ∙ e) (λ k. number_first n rs r k) (choose (number s) n _ _ _ h)
 
 number_with : (n : ℕ) (r : Refusal) → refusal_with n ≡ Ok r → number r ≡ n

@@ -29,12 +29,12 @@ taken_field k n rest fits =
 -- what a reading that came to an end went through
 
 cond_ok : {X : Type 0} (b : Bool) (e : Fault) (r : Result X Fault) (x : X) → cond b (Err e) r ≡ Ok x → (b ≡ false) × (r ≡ Ok x)
-cond_ok true e r x h = absurd (let z : ◌≡◌ {A = ℕ} 0 1 = cc in omega arith)
+cond_ok true e r x h = absurd (cc)
 cond_ok false e r x h = (refl, h)
 
 pub bind_ok : {X Y : Type 0} (r : Result X Fault) (next : X → Result Y Fault) (y : Y) → bind r next ≡ Ok y → (x : X) × (r ≡ Ok x) × (next x ≡ Ok y)
 bind_ok (Ok x) next y h = (x, refl, h)
-bind_ok (Err e) next y h = absurd (let z : ◌≡◌ {A = ℕ} 0 1 = cc in omega arith)
+bind_ok (Err e) next y h = absurd (cc)
 
 pub same_pair : {X Y : Type 0} (a x : X) (b y : Y) → ◌≡◌ {A = Result (X × Y) Fault} (Ok (a, b)) (Ok (x, y)) → (a ≡ x) × (b ≡ y)
 same_pair {X} {Y} a x b y h = let p : ◌≡◌ {A = X × Y} (a, b) (x, y) = cc in (ap (λ (q : X × Y). q.0) p, ap (λ (q : X × Y). q.1) p)
@@ -151,12 +151,12 @@ module _ (t n : ℕ) (frame : List ℕ) (bytes : Bytes frame) (c : Call) (rest :
       ⊎_elim (λ (e, h). one kind.Item (Certify t) [] frame bytes refl (λ x. (refl, e, refl)) h) (λ h.
       ⊎_elim (λ (e, h). none (Commit t) refl e refl h) (λ h.
       ⊎_elim (λ (e, h). none (Abort t) refl e refl h) (λ h.
-      ⊎_elim (λ (e, h). one kind.Item (Settle t) [] frame bytes refl (λ x. (refl, e, refl)) h) (λ h. absurd (let z : ◌≡◌ {A = ℕ} 0 1 = cc in omega arith))
+      ⊎_elim (λ (e, h). one kind.Item (Settle t) [] frame bytes refl (λ x. (refl, e, refl)) h) (λ h. absurd (cc))
       (choose n 8 _ _ _ h)) (choose n 7 _ _ _ h)) (choose n 6 _ _ _ h)) (choose n 5 _ _ _ h)) (choose n 4 _ _ _ h)) (choose n 3 _ _ _ h)) (choose n 2 _ _ _ h)) (choose n 1 _ _ _ h)
 
 pub ended_ok : {X : Type 0} (p : X × List ℕ) (x : X) → ended p ≡ Ok x → p ≡ (x, [])
 ended_ok (y, []) x h = let e : y ≡ x = cc in ap (λ z. (z, [])) e
-ended_ok (y, b ∷ rest) x h = absurd (let z : ◌≡◌ {A = ℕ} 0 1 = cc in omega arith)
+ended_ok (y, b ∷ rest) x h = absurd (cc)
 
 pub written_read : (frame : List ℕ) (c : Call) → Bytes frame → read_request frame ≡ Ok c → frame_of c ≡ frame
 written_read frame c bytes h =
