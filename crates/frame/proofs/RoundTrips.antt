@@ -1,5 +1,6 @@
 -- Each request has one frame. Assumes nothing.
-use Rattle.std.proofs.Common.{◌≡◌, ℕ, zero, suc, ◌+◌, ◌≤◌, Bool, true, false, cond, eqb, ◌⊎◌, List, [], ◌∷◌, ◌++◌, length, get_or, take, drop, Ok, Err, Result, sym, refl, ap, ◌∙◌, subst, inl, inr, ⊎_elim, append_assoc, append-nil, arith}
+use Rattle.std.proofs.Common.{◌≡◌, ℕ, zero, suc, ◌+◌, ◌≤◌, Bool, false, cond, eqb, ◌⊎◌, List, [], ◌∷◌, ◌++◌, length, get_or, take, drop, Ok, Err, Result, sym, refl, ap, ◌∙◌, subst, inl, inr, ⊎_elim, append_assoc, append-nil, arith}
+use Rattle.std.proofs.lemmas.Grind.{common_steps}
 use Rattle.std.proofs.lemmas.Bool.{cases_Bool, cond-true, cond-false, eqb-true, ltb-false, not-false}
 use Rattle.std.proofs.lemmas.List.{length-append, take_at, drop_at, take-append-drop, drop-drop, length-take, get_or-drop}
 use Rattle.store.specs.Bytes.{number_in, bytes_of, part}
@@ -29,8 +30,7 @@ taken_field k n rest fits =
 -- what a reading that came to an end went through
 
 cond_ok : {X : Type 0} (b : Bool) (e : Fault) (r : Result X Fault) (x : X) → cond b (Err e) r ≡ Ok x → (b ≡ false) × (r ≡ Ok x)
-cond_ok true e r x h = absurd (cc)
-cond_ok false e r x h = (refl, h)
+cond_ok b e r x h = grind (arith, common_steps)
 
 pub bind_ok : {X Y : Type 0} (r : Result X Fault) (next : X → Result Y Fault) (y : Y) → bind r next ≡ Ok y → (x : X) × (r ≡ Ok x) × (next x ≡ Ok y)
 bind_ok (Ok x) next y h = (x, refl, h)
