@@ -33,8 +33,7 @@ impl Draft {
     // Adds a field.
     pub(crate) fn put(&mut self, kind: Kind, number: u64)
         requires { length (contents self.old) + (3 + width_of kind) ≤ longest_request }
-        ensures used { length (contents self.new) ≡ length (contents self.old) + (3 + width_of kind) }
-        ensures contents { contents self.new ≡ contents self.old ++ field_of kind number }
+        ensures { contents self.new ≡ contents self.old ++ field_of kind number }
     {
         let width = kind.width();
         let bytes = number.to_be_bytes();
