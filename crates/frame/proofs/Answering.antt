@@ -1,13 +1,12 @@
 -- What serving a frame comes to once its call is made.
-use Rattle.std.proofs.Common.{◌≡◌, ℕ, ◌≤◌, cond, ltb, List, length, take, IfOk, Some, None, Ok, Err, Option, Result, sym, refl, ap, ◌∙◌, subst, arith}
+use Rattle.std.proofs.Common.{◌≡◌, ℕ, ◌≤◌, cond, ltb, List, length, take, IfOk, Some, None, Ok, Err, Option, Result, sym, ap, ◌∙◌, subst, arith}
+use Rattle.std.proofs.lemmas.Grind.{common_steps}
 use Rattle.std.proofs.lemmas.Bool.{le-ltb, cond-false}
 use Rattle.store.specs.declared.Version.{Version}
 use Rattle.store.specs.Bytes.{over}
 use Rattle.service.specs.declared.services.Service.{Service}
 use Rattle.service.specs.declared.refusals.Refusal.{Refusal}
 use Rattle.service.specs.declared.calls.Call.{Call}
-use Rattle.service.specs.declared.calls.Call.TheVariants.{Begin, Read, Write, Close, Certify, Commit, Abort, Settle}
-use Rattle.service.specs.declared.calls.Answer.TheVariants.{Done, Value, Stamp}
 use Rattle.service.specs.Refusals.{refusal}
 use Rattle.service.specs.Service.{State, Seat, seat, tool_of, rules, answer, outcome, Does}
 use Rattle.service.specs.Services.{state_of, Makes}
@@ -23,14 +22,7 @@ use Rattle.frame.specs.Serving.{accepted, Serves, Answered}
 
 -- an accepted call gives what its kind gives
 gives_answer : (s : State) (x : Seat) (c : Call) → carries (answer s x c) ≡ gives c
-gives_answer s x (Begin t) = refl
-gives_answer s x (Read t i) = refl
-gives_answer s x (Write t i v) = refl
-gives_answer s x (Close t k) = refl
-gives_answer s x (Certify t i) = refl
-gives_answer s x (Commit t) = refl
-gives_answer s x (Abort t) = refl
-gives_answer s x (Settle t i) = refl
+gives_answer s x c = grind (arith, common_steps)
 
 does_suits : (s : State) (c : Call) (a : Reply) (s' : State) → Does s c a s' → Suits c a
 does_suits s c a s' h = go (refusal (rules s c)) h
@@ -40,10 +32,7 @@ does_suits s c a s' h = go (refusal (rules s c)) h
     go (Some r) h = subst (λ (x : Reply). Suits c x) (ap (λ (p : Reply × State). p.0) h) tt
 
 reply_short : (a : Reply) → length (reply_of a) ≤ 15
-reply_short (Ok Done) = omega arith
-reply_short (Ok (Value v)) = omega arith
-reply_short (Ok (Stamp s)) = omega arith
-reply_short (Err r) = omega arith
+reply_short a = grind (arith, common_steps)
 
 pub served :
     {S : Type 0} (versions : S → List Version) (x y : Service S) (frame buffer after : List ℕ) (r : Result ℕ Fault) (c : Call) (a : Reply)

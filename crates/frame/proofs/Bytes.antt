@@ -1,21 +1,13 @@
 -- Numbers and their bytes, once, over the width. Assumes nothing.
-use Rattle.std.proofs.Common.{◌≡◌, ℕ, zero, suc, ◌+◌, ◌-◌, ◌*◌, ◌/◌, ◌%◌, ◌^◌, ◌<◌, ◌≤◌, List, [], ◌∷◌, length, take, drop, sym, refl, ap, ◌∙◌, mod-eq_of_lt, mul_assoc, add-mul, suc-add, zero-add, add-one, arith}
-use native.Mathlib.Nat.{pow-succ', pow-le-pow_right, mod-one, one-le-pow, mul-add-div_right, mul-add-mod_self_right}
-use lib.Arith.{mod-mul, digits_lt, digits_div}
-use Rattle.std.proofs.lemmas.List.{take_all}
-use Rattle.std.specs.Int.Digits.{number_from_digits_after}
+use Rattle.std.proofs.Common.{◌≡◌, ℕ, zero, suc, ◌+◌, ◌-◌, ◌*◌, ◌/◌, ◌%◌, ◌^◌, ◌<◌, ◌≤◌, List, [], ◌∷◌, length, sym, refl, ap, ◌∙◌, mod-eq_of_lt, mul_assoc, add-mul, arith}
+use native.Mathlib.Nat.{pow-succ', mod-one, one-le-pow, mul-add-div_right, mul-add-mod_self_right}
+use lib.Arith.{mod-mul, digits_div}
+use Rattle.std.specs.Int.Digits.{number_from_digits_after, AllBelowBase}
+use Rattle.std.proofs.lemmas.Int.Digits.{number_lt}
+use borrow.Rule.Slice.PartMut.{put_mid}
+use Rattle.std.specs.Int.{w64, from_be_bytes}
 use Rattle.store.specs.Bytes.{number_in, bytes_of}
 use Rattle.frame.specs.RoundTrip.{Bytes}
-
--- one more byte behind a number of i bytes
-pub byte_more : (n b i : ℕ) → n < 256 ^ i → b < 256 → n * 256 + b < 256 ^ (i + 1)
-byte_more n b i small byte = rw (add-one, pow-succ') (omega arith)
-
-pub room_for_byte : (n b i w : ℕ) → n < 256 ^ i → b < 256 → i < w → n * 256 + b < 256 ^ w
-room_for_byte n b i w small byte below =
-    let h = byte_more n b i small byte in
-    let k : 256 ^ (i + 1) ≤ 256 ^ w = pow-le-pow_right {n = 256} (omega arith) {i = i + 1} {j = w} (omega arith) in
-    omega arith
 
 pub length_bytes_of : (width n : ℕ) → length (bytes_of width n) ≡ width
 length_bytes_of zero n = refl
@@ -32,13 +24,12 @@ number_after n (d ∷ ds) =
     let r : n * 256 ^ suc (length ds) ≡ n * 256 * p = ap (λ x. n * x) q ∙ sym (mul_assoc n 256 p) in
     omega (arith, add-mul (n * 256) d p)
 
+digits : (bs : List ℕ) → Bytes bs → AllBelowBase 256 bs
+digits [] bytes = tt
+digits (b ∷ bs) bytes = (bytes 0, digits bs (λ i. bytes (suc i)))
+
 pub number_bound : (bs : List ℕ) → Bytes bs → number_in bs < 256 ^ length bs
-number_bound [] bytes = omega arith
-number_bound (b ∷ bs) bytes =
-    let e = number_after (0 + b) bs in
-    let d = digits_lt {q = 0 + b} {m = 256} (omega (arith, bytes 0)) (number_bound bs (λ i. bytes (suc i))) in
-    let q = pow-succ' 256 (length bs) in
-    omega arith
+number_bound bs bytes = number_lt 256 bs (digits bs bytes)
 
 mod_after : (width n : ℕ) → number_in (bytes_of width n) ≡ n % 256 ^ width
 mod_after zero n = sym (mod-one n)
@@ -70,13 +61,16 @@ bytes_of_number_in (b ∷ bs) bytes =
     ap (λ x. x % 256) (digits_div (0 + b) (number_bound bs rest)) ∙ (mod-eq_of_lt byte ∙ omega arith) in
     rw (e, h, bytes_of_high (length bs) (number_in bs) (0 + b), bytes_of_number_in bs rest)
 
--- the low bytes
-pub low_bytes : (k width n : ℕ) → drop k (bytes_of (k + width) n) ≡ bytes_of width n
-low_bytes zero width n = rw zero-add
-low_bytes (suc k) width n = rw suc-add (low_bytes k width n)
-
-pub last_bytes : (width n : ℕ) → width ≤ 8 → take (8 - (8 - width)) (drop (8 - width) (bytes_of 8 n)) ≡ bytes_of width n
-last_bytes width n fits =
-    let sum : 8 ≡ 8 - width + width = omega arith in
-    let low : drop (8 - width) (bytes_of 8 n) ≡ bytes_of width n = ap (λ m. drop (8 - width) (bytes_of m n)) sum ∙ low_bytes (8 - width) width n in
-    ap (take (8 - (8 - width))) low ∙ take_all (8 - (8 - width)) (bytes_of width n) (omega (arith, length_bytes_of width n))
+-- up to eight bytes behind zeros, as a machine reads them
+pub padded : (bs : List ℕ) → length bs ≤ 8
+    → from_be_bytes w64 (put_mid (8 - length bs) (8 - (8 - length bs)) (0 ∷ 0 ∷ 0 ∷ 0 ∷ 0 ∷ 0 ∷ 0 ∷ 0 ∷ []) bs) ≡ number_in bs
+padded [] fits = refl
+padded (a ∷ []) fits = omega arith
+padded (a ∷ b ∷ []) fits = omega arith
+padded (a ∷ b ∷ c ∷ []) fits = omega arith
+padded (a ∷ b ∷ c ∷ d ∷ []) fits = omega arith
+padded (a ∷ b ∷ c ∷ d ∷ e ∷ []) fits = omega arith
+padded (a ∷ b ∷ c ∷ d ∷ e ∷ f ∷ []) fits = omega arith
+padded (a ∷ b ∷ c ∷ d ∷ e ∷ f ∷ g ∷ []) fits = omega arith
+padded (a ∷ b ∷ c ∷ d ∷ e ∷ f ∷ g ∷ h ∷ []) fits = omega arith
+padded (a ∷ b ∷ c ∷ d ∷ e ∷ f ∷ g ∷ h ∷ i ∷ bs) fits = absurd (omega arith)

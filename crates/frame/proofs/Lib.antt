@@ -1,6 +1,5 @@
 mod Bytes
 mod Taking
-mod Putting
 mod RoundTrips
 mod ReplyTrips
 mod Written

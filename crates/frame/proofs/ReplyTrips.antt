@@ -1,14 +1,15 @@
 -- Each reply has one frame. Assumes nothing.
-use Rattle.std.proofs.Common.{◌≡◌, ℕ, ◌<◌, false, eqb, List, [], ◌∷◌, ◌++◌, length, Ok, Err, Result, sym, refl, ap, ◌∙◌, subst, ⊎_elim, append-nil, arith}
-use Rattle.std.proofs.lemmas.Bool.{cond-false}
+use Rattle.std.proofs.Common.{◌≡◌, ◌≢◌, ℕ, ◌<◌, false, eqb, List, [], ◌∷◌, ◌++◌, length, Ok, Err, Result, sym, refl, ap, ◌∙◌, subst, ⊎_elim, append-nil, arith}
+use Rattle.std.proofs.lemmas.Grind.{common_steps}
+use Rattle.std.proofs.lemmas.Bool.{cond-false, ne_eqb}
 use Rattle.service.specs.declared.calls.Call.{Call}
 use Rattle.service.specs.declared.calls.Call.TheVariants.{Begin, Read, Close}
 use Rattle.service.specs.declared.calls.Answer.{Answer}
 use Rattle.service.specs.declared.calls.Answer.TheVariants.{Done, Value, Stamp}
 use Rattle.service.specs.declared.refusals.Refusal.{Refusal}
-use Rattle.service.specs.declared.refusals.Refusal.TheVariants.{UnknownTool, WrongState, UnknownItem, TooManyEntries, TickTooLarge, CounterSpent, NoEntry, HasToken, VersionChanged, BehindWrite, WriteBetween, BehindRead, ReadStands, NotCertified, NoToken}
 use Rattle.service.specs.Refusals.{number}
 use Rattle.frame.specs.declared.faults.Fault.{Fault}
+use Rattle.frame.specs.declared.faults.Fault.TheVariants.{Unknown}
 use Rattle.frame.specs.declared.kinds.Kind.TheVariants as kind
 use Rattle.frame.specs.Fields.{field, bind}
 use Rattle.frame.specs.Requests.{ended}
@@ -16,36 +17,35 @@ use Rattle.frame.specs.RoundTrip.{Bytes, Fits}
 use Rattle.frame.specs.Replies.{Reply, given, reply_of, Gives, nothing, value, stamp, gives, taken_answer, first_with, refusals, refusal_with, taken_reply, read_reply, carries, Suits, ReplyFits, RepliesOneFrame}
 use Rattle.frame.proofs.RoundTrips.{taken_field, field_taken, bind_ok, same_pair, choose, ended_ok}
 
-record Numbered (r : Refusal) : Type 0 where
-  comes : refusal_with (number r) ≡ Ok r
-  fits : number r < 256
-  above : eqb (number r) 0 ≡ false
-
-numbered : (r : Refusal) → Numbered r
+numbered : (r : Refusal) → refusal_with (number r) ≡ Ok r
 unfolding refusal_with
-numbered UnknownTool = record { comes = refl; fits = omega arith; above = refl }
-numbered WrongState = record { comes = refl; fits = omega arith; above = refl }
-numbered UnknownItem = record { comes = refl; fits = omega arith; above = refl }
-numbered TooManyEntries = record { comes = refl; fits = omega arith; above = refl }
-numbered TickTooLarge = record { comes = refl; fits = omega arith; above = refl }
-numbered CounterSpent = record { comes = refl; fits = omega arith; above = refl }
-numbered NoEntry = record { comes = refl; fits = omega arith; above = refl }
-numbered HasToken = record { comes = refl; fits = omega arith; above = refl }
-numbered VersionChanged = record { comes = refl; fits = omega arith; above = refl }
-numbered BehindWrite = record { comes = refl; fits = omega arith; above = refl }
-numbered WriteBetween = record { comes = refl; fits = omega arith; above = refl }
-numbered BehindRead = record { comes = refl; fits = omega arith; above = refl }
-numbered ReadStands = record { comes = refl; fits = omega arith; above = refl }
-numbered NotCertified = record { comes = refl; fits = omega arith; above = refl }
-numbered NoToken = record { comes = refl; fits = omega arith; above = refl }
+numbered r = grind (arith, common_steps)
+
+number_fits : (r : Refusal) → number r < 256
+number_fits r = grind (arith, common_steps)
+
+refuses : (r : Refusal) → eqb (number r) 0 ≡ false
+refuses r = grind (arith, common_steps)
 
 number_first : (n : ℕ) (rs : List Refusal) (r : Refusal) → first_with n rs ≡ Ok r → number r ≡ n
-number_first n [] r h = absurd (let z : ◌≡◌ {A = ℕ} 0 1 = cc in omega arith)
+number_first n [] r h = absurd (cc)
 number_first n (s ∷ rs) r h = ⊎_elim (λ (e, k). let same : s ≡ r = cc in ap number (sym same) ∙ e) (λ k. number_first n rs r k) (choose (number s) n _ _ _ h)
 
 number_with : (n : ℕ) (r : Refusal) → refusal_with n ≡ Ok r → number r ≡ n
 unfolding refusal_with
 number_with n r h = number_first n refusals r h
+
+-- what the conversion of a number answers
+pub refusal_is : (n : ℕ) (r : Refusal) → number r ≡ n → refusal_with n ≡ Ok r
+refusal_is n r is = rw (← is) (numbered r)
+
+none_first : (n : ℕ) (rs : List Refusal) → ((r : Refusal) → number r ≢ n) → first_with n rs ≡ Err Unknown
+none_first n [] absent = refl
+none_first n (r ∷ rs) absent = cond-false _ _ _ (ne_eqb _ _ (absent r)) ∙ none_first n rs absent
+
+pub refusal_none : (n : ℕ) → ((r : Refusal) → number r ≢ n) → refusal_with n ≡ Err Unknown
+unfolding refusal_with
+refusal_none n absent = none_first n refusals absent
 
 -- reading what was written
 
@@ -62,9 +62,8 @@ read_written c (Ok a) suits fits =
     headed c 0 (given a) (omega arith)
     ∙ ap (λ r. bind (bind r (λ x. Ok (Ok x.0, x.1))) ended) (ap (λ s. taken_answer s (given a)) (sym suits) ∙ answer_read a fits)
 read_written c (Err r) suits fits =
-    let is = numbered r in
-    headed c (number r) [] is.fits
-    ∙ ap (λ x. bind x ended) (cond-false (eqb (number r) 0) _ _ is.above ∙ ap (λ x. bind x (λ s. Ok (Err s, []))) is.comes)
+    headed c (number r) [] (number_fits r)
+    ∙ ap (λ x. bind x ended) (cond-false (eqb (number r) 0) _ _ (refuses r) ∙ ap (λ x. bind x (λ s. Ok (Err s, []))) (numbered r))
 
 -- writing what was read
 
@@ -111,28 +110,23 @@ asked (Ok (Stamp s)) = Close 0 0
 asked (Err r) = Begin 0
 
 suited : (a : Reply) → Suits (asked a) a
-suited (Ok Done) = refl
-suited (Ok (Value v)) = refl
-suited (Ok (Stamp s)) = refl
-suited (Err r) = tt
+suited a = grind (arith, common_steps)
 
 -- two replies to one call with one frame are the same
 one_call : (c : Call) (a b : Reply) → Suits c a → Suits c b → ReplyFits a → ReplyFits b → reply_of a ≡ reply_of b → a ≡ b
 one_call c a b sa sb fa fb e =
     let h : ◌≡◌ {A = Result Reply Fault} (Ok a) (Ok b) = sym (read_written c a sa fa) ∙ (ap (read_reply c) e ∙ read_written c b sb fb) in cc
 
+-- answers of different kinds have frames of different lengths
+same_kind : (a b : Answer) → length (given a) ≡ length (given b) → carries a ≡ carries b
+same_kind a b e = grind (arith, common_steps)
+
 pub apart : (a b : Reply) → ReplyFits a → ReplyFits b → reply_of a ≡ reply_of b → a ≡ b
 apart (Err r) b fa fb e = one_call (asked b) (Err r) b tt (suited b) fa fb e
 apart (Ok a) (Err r) fa fb e = one_call (asked (Ok a)) (Ok a) (Err r) (suited (Ok a)) tt fa fb e
-apart (Ok Done) (Ok Done) fa fb e = refl
-apart (Ok Done) (Ok (Value v)) fa fb e = absurd (omega (arith, ap length e))
-apart (Ok Done) (Ok (Stamp s)) fa fb e = absurd (omega (arith, ap length e))
-apart (Ok (Value u)) (Ok Done) fa fb e = absurd (omega (arith, ap length e))
-apart (Ok (Value u)) (Ok (Value v)) fa fb e = one_call (Read 0 0) (Ok (Value u)) (Ok (Value v)) refl refl fa fb e
-apart (Ok (Value u)) (Ok (Stamp s)) fa fb e = absurd (omega (arith, ap length e))
-apart (Ok (Stamp u)) (Ok Done) fa fb e = absurd (omega (arith, ap length e))
-apart (Ok (Stamp u)) (Ok (Value v)) fa fb e = absurd (omega (arith, ap length e))
-apart (Ok (Stamp u)) (Ok (Stamp s)) fa fb e = one_call (Close 0 0) (Ok (Stamp u)) (Ok (Stamp s)) refl refl fa fb e
+apart (Ok a) (Ok b) fa fb e =
+    let is : carries b ≡ carries a = same_kind b a (omega (arith, sym (ap length e))) in
+    one_call (asked (Ok a)) (Ok a) (Ok b) (suited (Ok a)) (is ∙ suited (Ok a)) fa fb e
 
 pub replies_one_frame : RepliesOneFrame
 replies_one_frame = record { read_written = read_written; written_read = written_read; apart = apart }

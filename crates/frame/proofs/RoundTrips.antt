@@ -1,5 +1,6 @@
 -- Each request has one frame. Assumes nothing.
-use Rattle.std.proofs.Common.{◌≡◌, ℕ, zero, suc, ◌+◌, ◌^◌, ◌<◌, ◌≤◌, Bool, true, false, cond, eqb, ◌⊎◌, List, [], ◌∷◌, ◌++◌, length, get_or, take, drop, Ok, Err, Result, sym, refl, ap, ◌∙◌, subst, inl, inr, ⊎_elim, append_assoc, append-nil, arith}
+use Rattle.std.proofs.Common.{◌≡◌, ℕ, zero, suc, ◌+◌, ◌≤◌, Bool, false, cond, eqb, ◌⊎◌, List, [], ◌∷◌, ◌++◌, length, get_or, take, drop, Ok, Err, Result, sym, refl, ap, ◌∙◌, subst, inl, inr, ⊎_elim, append_assoc, append-nil, arith}
+use Rattle.std.proofs.lemmas.Grind.{common_steps}
 use Rattle.std.proofs.lemmas.Bool.{cases_Bool, cond-true, cond-false, eqb-true, ltb-false, not-false}
 use Rattle.std.proofs.lemmas.List.{length-append, take_at, drop_at, take-append-drop, drop-drop, length-take, get_or-drop}
 use Rattle.store.specs.Bytes.{number_in, bytes_of, part}
@@ -10,20 +11,10 @@ use Rattle.frame.specs.declared.faults.Fault.{Fault}
 use Rattle.frame.specs.declared.kinds.Kind.{Kind}
 use Rattle.frame.specs.declared.kinds.Kind.TheVariants as kind
 use Rattle.frame.specs.Fields.{tag, width, field, taken, bind}
-use Rattle.frame.specs.declared.requests.Request.{Request}
-use Rattle.frame.specs.Requests.{requested, frame_of, arguments, number, taken_call, ended, read_request, with_none, with_one}
+use Rattle.frame.specs.Requests.{frame_of, arguments, number, taken_call, ended, read_request, with_none, with_one}
 use Rattle.frame.specs.RoundTrip.{Bytes, Fits, CallFits, RequestsOneFrame}
 use Rattle.frame.proofs.Bytes.{length_bytes_of, number_in_bytes_of, bytes_of_number_in}
 use Rattle.frame.proofs.Taking.{some_width, found}
-
-wide : (k : Kind) → width k < 256 ^ 2
-wide kind.Tool = omega arith
-wide kind.Call = omega arith
-wide kind.Item = omega arith
-wide kind.Value = omega arith
-wide kind.Tick = omega arith
-wide kind.Stamp = omega arith
-wide kind.Answer = omega arith
 
 -- a field that was written is read
 pub taken_field : (k : Kind) (n : ℕ) (rest : List ℕ) → Fits k n → taken k (field k n ++ rest) ≡ Ok (n, rest)
@@ -33,18 +24,17 @@ taken_field k n rest fits =
     let long : 3 + width k ≤ length frame = omega (arith, length-append (bytes_of (width k) n) rest) in
     let value : number_in (part 3 (width k) frame) ≡ n = ap number_in (take_at (bytes_of (width k) n) rest (width k) size) ∙ number_in_bytes_of (width k) n fits in
     let back : drop (3 + width k) frame ≡ rest = sym (drop-drop (width k) 3 frame) ∙ drop_at (bytes_of (width k) n) rest (width k) size in
-    found k frame long refl (number_in_bytes_of 2 (width k) (wide k))
+    found k frame long refl (number_in_bytes_of 2 (width k) (omega (arith, some_width k)))
     ∙ (ap (λ x. Ok (x, drop (3 + width k) frame)) value ∙ ap (λ x. Ok (n, x)) back)
 
 -- what a reading that came to an end went through
 
 cond_ok : {X : Type 0} (b : Bool) (e : Fault) (r : Result X Fault) (x : X) → cond b (Err e) r ≡ Ok x → (b ≡ false) × (r ≡ Ok x)
-cond_ok true e r x h = absurd (let z : ◌≡◌ {A = ℕ} 0 1 = cc in omega arith)
-cond_ok false e r x h = (refl, h)
+cond_ok b e r x h = grind (arith, common_steps)
 
 pub bind_ok : {X Y : Type 0} (r : Result X Fault) (next : X → Result Y Fault) (y : Y) → bind r next ≡ Ok y → (x : X) × (r ≡ Ok x) × (next x ≡ Ok y)
 bind_ok (Ok x) next y h = (x, refl, h)
-bind_ok (Err e) next y h = absurd (let z : ◌≡◌ {A = ℕ} 0 1 = cc in omega arith)
+bind_ok (Err e) next y h = absurd (cc)
 
 pub same_pair : {X Y : Type 0} (a x : X) (b y : Y) → ◌≡◌ {A = Result (X × Y) Fault} (Ok (a, b)) (Ok (x, y)) → (a ≡ x) × (b ≡ y)
 same_pair {X} {Y} a x b y h = let p : ◌≡◌ {A = X × Y} (a, b) (x, y) = cc in (ap (λ (q : X × Y). q.0) p, ap (λ (q : X × Y). q.1) p)
@@ -161,12 +151,12 @@ module _ (t n : ℕ) (frame : List ℕ) (bytes : Bytes frame) (c : Call) (rest :
       ⊎_elim (λ (e, h). one kind.Item (Certify t) [] frame bytes refl (λ x. (refl, e, refl)) h) (λ h.
       ⊎_elim (λ (e, h). none (Commit t) refl e refl h) (λ h.
       ⊎_elim (λ (e, h). none (Abort t) refl e refl h) (λ h.
-      ⊎_elim (λ (e, h). one kind.Item (Settle t) [] frame bytes refl (λ x. (refl, e, refl)) h) (λ h. absurd (let z : ◌≡◌ {A = ℕ} 0 1 = cc in omega arith))
+      ⊎_elim (λ (e, h). one kind.Item (Settle t) [] frame bytes refl (λ x. (refl, e, refl)) h) (λ h. absurd (cc))
       (choose n 8 _ _ _ h)) (choose n 7 _ _ _ h)) (choose n 6 _ _ _ h)) (choose n 5 _ _ _ h)) (choose n 4 _ _ _ h)) (choose n 3 _ _ _ h)) (choose n 2 _ _ _ h)) (choose n 1 _ _ _ h)
 
 pub ended_ok : {X : Type 0} (p : X × List ℕ) (x : X) → ended p ≡ Ok x → p ≡ (x, [])
 ended_ok (y, []) x h = let e : y ≡ x = cc in ap (λ z. (z, [])) e
-ended_ok (y, b ∷ rest) x h = absurd (let z : ◌≡◌ {A = ℕ} 0 1 = cc in omega arith)
+ended_ok (y, b ∷ rest) x h = absurd (cc)
 
 pub written_read : (frame : List ℕ) (c : Call) → Bytes frame → read_request frame ≡ Ok c → frame_of c ≡ frame
 written_read frame c bytes h =
@@ -186,21 +176,3 @@ requests_one_frame = record {
   written_read = written_read;
   apart = λ c d fits fits' e. let h : ◌≡◌ {A = Result Call Fault} (Ok c) (Ok d) = sym (read_written c fits) ∙ (ap read_request e ∙ read_written d fits') in cc;
 }
-
--- a request's numbers fit their fields, and so do those of its call
-pub requested_fits :
-    (q : Request) → Fits kind.Tool q.tool → Fits kind.Item q.item → Fits kind.Value q.value → Fits kind.Tick q.tick
-    → (c : Call) → requested q ≡ Ok c → CallFits c
-requested_fits q tool item value tick c h =
-    ⊎_elim (λ (e, h). is h tool) (λ h.
-    ⊎_elim (λ (e, h). is h (tool, item)) (λ h.
-    ⊎_elim (λ (e, h). is h (tool, item, value)) (λ h.
-    ⊎_elim (λ (e, h). is h (tool, tick)) (λ h.
-    ⊎_elim (λ (e, h). is h (tool, item)) (λ h.
-    ⊎_elim (λ (e, h). is h tool) (λ h.
-    ⊎_elim (λ (e, h). is h tool) (λ h.
-    ⊎_elim (λ (e, h). is h (tool, item)) (λ h. absurd (let z : ◌≡◌ {A = ℕ} 0 1 = cc in omega arith))
-    (choose q.call 8 _ _ _ h)) (choose q.call 7 _ _ _ h)) (choose q.call 6 _ _ _ h)) (choose q.call 5 _ _ _ h)) (choose q.call 4 _ _ _ h)) (choose q.call 3 _ _ _ h)) (choose q.call 2 _ _ _ h)) (choose q.call 1 _ _ _ h)
-  where
-    is : {d : Call} → ◌≡◌ {A = Result Call Fault} (Ok d) (Ok c) → CallFits d → CallFits c
-    is {d} h fits = let e : d ≡ c = cc in subst CallFits e fits

@@ -1,19 +1,13 @@
 -- A field at the front of a frame. Assumes nothing.
-use Rattle.std.proofs.Common.{◌≡◌, ℕ, ◌+◌, ◌*◌, ◌<◌, ◌≤◌, not, eqb, ltb, List, [], ◌∷◌, length, get_or, drop, Ok, ◌∙◌, arith}
+use Rattle.std.proofs.Common.{◌≡◌, ℕ, ◌+◌, ◌*◌, ◌<◌, ◌≤◌, not, eqb, ltb, List, length, get_or, drop, Ok, ◌∙◌, arith}
+use Rattle.std.proofs.lemmas.Grind.{common_steps}
 use Rattle.std.proofs.lemmas.Bool.{le-ltb, eq-eqb, not_from_true, cond-false}
 use Rattle.store.specs.Bytes.{number_in, part}
 use Rattle.frame.specs.declared.kinds.Kind.{Kind}
-use Rattle.frame.specs.declared.kinds.Kind.TheVariants.{Tool, Call, Item, Value, Tick, Stamp, Answer}
 use Rattle.frame.specs.Fields.{tag, width, taken}
 
-pub some_width : (k : Kind) → 0 < width k
-some_width Tool = omega arith
-some_width Call = omega arith
-some_width Item = omega arith
-some_width Value = omega arith
-some_width Tick = omega arith
-some_width Stamp = omega arith
-some_width Answer = omega arith
+pub some_width : (k : Kind) → (0 < width k) × (width k ≤ 8)
+some_width k = grind (arith, common_steps)
 
 pub found :
     (k : Kind) (frame : List ℕ)
@@ -26,7 +20,4 @@ found k frame long tagged sized =
     ∙ cond-false (ltb (length frame) (3 + width k)) _ _ (le-ltb _ _ long)))
 
 pub length_bytes : (frame : List ℕ) → 3 ≤ length frame → number_in (part 1 2 frame) ≡ get_or frame 1 0 * 256 + get_or frame 2 0
-length_bytes [] short = absurd (omega arith)
-length_bytes (a ∷ []) short = absurd (omega arith)
-length_bytes (a ∷ b ∷ []) short = absurd (omega arith)
-length_bytes (a ∷ b ∷ c ∷ rest) long = omega arith
+length_bytes frame long = grind (arith, common_steps)

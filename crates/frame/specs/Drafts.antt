@@ -1,5 +1,5 @@
 -- Frames that are written to a buffer.
-use Rattle.std.specs.Prelude.{ℕ, cond, List, length, take, Ok, Err, Result, nat_lt}
+use Rattle.std.specs.Prelude.{ℕ, cond, List, length, Ok, Err, Result, nat_lt}
 use Rattle.store.specs.Bytes.{over}
 use Rattle.frame.specs.declared.faults.Fault.{Fault}
 use Rattle.frame.specs.declared.faults.Fault.TheVariants.{Room}
@@ -14,7 +14,7 @@ longest_reply = 15
 
 -- the fields that were put
 abbrev pub contents : Draft → List ℕ
-contents d = take d.used d.bytes
+contents d = d.bytes.items
 
 -- a frame goes to the front of a buffer and leaves the later bytes; where it does not fit, the buffer stays
 abbrev pub written : List ℕ → List ℕ → Result ℕ Fault × List ℕ

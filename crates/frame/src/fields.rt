@@ -1,16 +1,14 @@
 // The fields of a frame that is read.
-ghost use Rattle.std.specs.Prelude.{◌≡◌, ◌^◌, ◌<◌, IfOk, Ok, Err};
-ghost use Rattle.frame.specs.declared.kinds.Kind.TheVariants.{Tool, Call, Item, Value, Tick, Stamp, Answer};
+ghost use Rattle.std.specs.Prelude.{◌≡◌, ◌^◌, ◌<◌, ◌≤◌, length, IfOk, Ok, Err};
+ghost use Rattle.store.specs.Bytes.{number_in};
 ghost use Rattle.frame.specs.Fields.{width as width_of, taken, Reads};
 ghost use Rattle.frame.specs.Requests.{ended};
 ghost use Rattle.frame.specs.Parts.{kind_of, content_of, Found};
 
 use crate::faults::Fault;
 use crate::kinds::Kind;
-use crate::numbers::read_number;
-use store::{Item, Stamp, Value};
 
-// A field, whose content is a part of the frame.
+// A field, whose content is a part of the frame. A `Kind` beside it says what is expected before there is a content.
 #[derive(Clone, Copy)]
 pub(crate) enum Field<'a> {
     Tool(&'a [u8]),
@@ -66,12 +64,23 @@ impl<'a> Field<'a> {
         if u16::from_be_bytes([*high, *low]) as usize != width {
             return Err(Fault::Length);
         }
-        if rest.len() < width {
+        let Some((content, rest)) = rest.split_at_checked(width) else {
             return Err(Fault::Cut);
-        }
-        let (content, rest) = rest.split_at(width);
+        };
         Ok((Field::new(kind, content), rest))
     }
+}
+
+// The number that at most eight bytes write, the highest byte first.
+fn read_number(bytes: &[u8]) -> u64
+    requires { length bytes.now ≤ 8 }
+    ensures value { result ≡ number_in bytes.now }
+    ensures bound { result < 256 ^ length bytes.now }
+{
+    let mut all = [0; size_of::<u64>()];
+    let high = all.len() - bytes.len();
+    all[high..].copy_from_slice(bytes);
+    u64::from_be_bytes(all)
 }
 
 // A frame from the field on that is read next.
@@ -81,55 +90,15 @@ pub(crate) struct Fields<'a> {
 }
 
 impl Fields<'_> {
-    fn next(&mut self, kind: Kind) -> Result<u64, Fault>
+    // The number in the field of that kind. It fits the type that is as wide, so callers cast it; a trait of the integers
+    // in place of the cast would say each width a second time.
+    pub(crate) fn next(&mut self, kind: Kind) -> Result<u64, Fault>
         ensures takes { Reads (taken kind) self.old.rest.now result self.new.rest.now }
         ensures bound { IfOk result (λ n. n < 256 ^ width_of kind) }
     {
         let (field, rest) = Field::take(kind, self.rest)?;
         self.rest = rest;
         Ok(read_number(field.content()))
-    }
-
-    pub(crate) fn tool(&mut self) -> Result<u8, Fault>
-        ensures { Reads (taken Tool) self.old.rest.now result self.new.rest.now }
-    {
-        Ok(self.next(Kind::Tool)? as u8)
-    }
-
-    pub(crate) fn call(&mut self) -> Result<u8, Fault>
-        ensures { Reads (taken Call) self.old.rest.now result self.new.rest.now }
-    {
-        Ok(self.next(Kind::Call)? as u8)
-    }
-
-    pub(crate) fn item(&mut self) -> Result<Item, Fault>
-        ensures { Reads (taken Item) self.old.rest.now result self.new.rest.now }
-    {
-        Ok(self.next(Kind::Item)? as Item)
-    }
-
-    pub(crate) fn value(&mut self) -> Result<Value, Fault>
-        ensures { Reads (taken Value) self.old.rest.now result self.new.rest.now }
-    {
-        Ok(self.next(Kind::Value)? as Value)
-    }
-
-    pub(crate) fn tick(&mut self) -> Result<u64, Fault>
-        ensures { Reads (taken Tick) self.old.rest.now result self.new.rest.now }
-    {
-        self.next(Kind::Tick)
-    }
-
-    pub(crate) fn stamp(&mut self) -> Result<Stamp, Fault>
-        ensures { Reads (taken Stamp) self.old.rest.now result self.new.rest.now }
-    {
-        self.next(Kind::Stamp)
-    }
-
-    pub(crate) fn answer(&mut self) -> Result<u8, Fault>
-        ensures { Reads (taken Answer) self.old.rest.now result self.new.rest.now }
-    {
-        Ok(self.next(Kind::Answer)? as u8)
     }
 
     // Nothing may follow the last field.

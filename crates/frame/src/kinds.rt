@@ -5,51 +5,33 @@ ghost use Rattle.frame.specs.Fields.{tag as tag_of, width as width_of};
 use store::{Item, Stamp, Value};
 
 // The tag and the two bytes of the length.
-pub(crate) const HEAD: usize = 3;
-
-const TOOL: usize = size_of::<u8>();
-
-const CALL: usize = size_of::<u8>();
-
-const ITEM: usize = size_of::<Item>();
-
-const VALUE: usize = size_of::<Value>();
-
-const TICK: usize = size_of::<u64>();
-
-const STAMP: usize = size_of::<Stamp>();
-
-const ANSWER: usize = size_of::<u8>();
+const HEAD: usize = 3;
 
 // The longest request, that of a write, and the longest reply, that of a close.
-pub(crate) const LONGEST_REQUEST: usize = HEAD + TOOL + HEAD + CALL + HEAD + ITEM + HEAD + VALUE;
+pub(crate) const LONGEST_REQUEST: usize = 4 * HEAD
+    + 2 * size_of::<u8>()
+    + size_of::<Item>()
+    + size_of::<Value>();
 
-pub(crate) const LONGEST_REPLY: usize = HEAD + ANSWER + HEAD + STAMP;
+pub(crate) const LONGEST_REPLY: usize = 2 * HEAD + size_of::<u8>() + size_of::<Stamp>();
 
+// Each kind by its tag.
 #[derive(Clone, Copy, PartialEq, Eq, Debug)]
 pub(crate) enum Kind {
-    Tool,
-    Call,
-    Item,
-    Value,
-    Tick,
-    Stamp,
-    Answer,
+    Tool = 0x54,
+    Call = 0x43,
+    Item = 0x49,
+    Value = 0x56,
+    Tick = 0x4B,
+    Stamp = 0x53,
+    Answer = 0x41,
 }
 
 impl Kind {
     pub(crate) fn tag(self) -> u8
         ensures { result ≡ tag_of self }
     {
-        match self {
-            Kind::Tool => 0x54,
-            Kind::Call => 0x43,
-            Kind::Item => 0x49,
-            Kind::Value => 0x56,
-            Kind::Tick => 0x4B,
-            Kind::Stamp => 0x53,
-            Kind::Answer => 0x41,
-        }
+        self as u8
     }
 
     // How many bytes the content has.
@@ -57,13 +39,11 @@ impl Kind {
         ensures { result ≡ width_of self }
     {
         match self {
-            Kind::Tool => TOOL,
-            Kind::Call => CALL,
-            Kind::Item => ITEM,
-            Kind::Value => VALUE,
-            Kind::Tick => TICK,
-            Kind::Stamp => STAMP,
-            Kind::Answer => ANSWER,
+            Kind::Tool | Kind::Call | Kind::Answer => size_of::<u8>(),
+            Kind::Item => size_of::<Item>(),
+            Kind::Value => size_of::<Value>(),
+            Kind::Tick => size_of::<u64>(),
+            Kind::Stamp => size_of::<Stamp>(),
         }
     }
 }

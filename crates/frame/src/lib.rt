@@ -4,7 +4,6 @@ mod drafts;
 mod faults;
 mod fields;
 mod kinds;
-mod numbers;
 mod replies;
 mod requests;
 mod serving;

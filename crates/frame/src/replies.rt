@@ -1,58 +1,37 @@
 // Replies as frames.
-ghost use Rattle.std.specs.Prelude.{◌≡◌, ◌≤◌, take, IfOk, Ok};
+ghost use Rattle.std.specs.Prelude.{◌≡◌, take, IfOk, Ok};
 ghost use Rattle.service.specs.declared.calls.Call.{Call as Asked};
 ghost use Rattle.frame.specs.Fields.{Reads};
-ghost use Rattle.frame.specs.Drafts.{contents, longest_reply, written};
-ghost use Rattle.frame.specs.Replies.{reply_of, first_with, refusal_with, gives, taken_answer, read_reply, Suits, ReplyFits, RepliesOneFrame};
+ghost use Rattle.frame.specs.Drafts.{contents, written};
+ghost use Rattle.frame.specs.Replies.{reply_of, gives, taken_answer, taken_reply, read_reply, Suits, ReplyFits, RepliesOneFrame};
 
 use crate::drafts::Draft;
 use crate::faults::Fault;
 use crate::fields::Fields;
 use crate::kinds::Kind;
 use service::{Answer, Call, Refusal};
+use store::Value;
 
 // The answer of an accepted call; any other is the number of a refusal.
 const ACCEPTED: u8 = 0;
 
-const REFUSALS: [Refusal; 15] = [
-    Refusal::UnknownTool,
-    Refusal::WrongState,
-    Refusal::UnknownItem,
-    Refusal::TooManyEntries,
-    Refusal::TickTooLarge,
-    Refusal::CounterSpent,
-    Refusal::NoEntry,
-    Refusal::HasToken,
-    Refusal::VersionChanged,
-    Refusal::BehindWrite,
-    Refusal::WriteBetween,
-    Refusal::BehindRead,
-    Refusal::ReadStands,
-    Refusal::NotCertified,
-    Refusal::NoToken,
-];
-
 // What a tool is told of its call.
 pub type Reply = Result<Answer, Refusal>;
 
-fn draft(reply: Reply) -> Draft
-    ensures contents { contents result ≡ reply_of reply }
-    ensures short { result.used ≤ longest_reply }
-    ensures fits { ReplyFits reply }
-{
-    let mut frame = Draft::new();
-    match reply {
-        Ok(answer) => {
-            frame.put(Kind::Answer, u64::from(ACCEPTED));
-            match answer {
-                Answer::Done => {}
-                Answer::Value(value) => frame.put(Kind::Value, u64::from(value)),
-                Answer::Stamp(stamp) => frame.put(Kind::Stamp, stamp),
-            }
+impl From<Reply> for Draft {
+    ghost from_gives = { λ reply draft. (contents draft ≡ reply_of reply) × ReplyFits reply };
+
+    fn from(reply: Reply) -> Draft {
+        let mut frame = Draft::new();
+        let answer = reply.map_or_else(u8::from, |_| ACCEPTED);
+        frame.put(Kind::Answer, u64::from(answer));
+        match reply {
+            Ok(Answer::Value(value)) => frame.put(Kind::Value, u64::from(value)),
+            Ok(Answer::Stamp(stamp)) => frame.put(Kind::Stamp, stamp),
+            Ok(Answer::Done) | Err(_) => {}
         }
-        Err(refusal) => frame.put(Kind::Answer, u64::from(refusal.number())),
+        frame
     }
-    frame
 }
 
 // Writes the reply's frame to the front of the buffer and answers its length; later bytes stay, and a refusal leaves
@@ -61,40 +40,16 @@ pub fn write_reply(reply: Reply, buffer: &mut [u8]) -> Result<usize, Fault>
     ensures writes { (result, buffer.new) ≡ written (reply_of reply) buffer.old }
     ensures back { IfOk result (λ n. (c : Asked) → Suits c reply → read_reply c (take n buffer.new) ≡ Ok reply) }
 {
-    draft(reply).copy_to(buffer)
-}
-
-// The first of these refusals with that number.
-fn first_with(number: u8, refusals: &[Refusal]) -> Result<Refusal, Fault>
-    ensures { result ≡ first_with number refusals.now }
-{
-    for refusal in refusals {
-        if refusal.number() == number {
-            return Ok(*refusal);
-        }
-    }
-    Err(Fault::Unknown)
-}
-
-fn refusal(number: u8) -> Result<Refusal, Fault>
-    ensures { result ≡ refusal_with number }
-{
-    first_with(number, &REFUSALS)
+    Draft::from(reply).copy_to(buffer)
 }
 
 // What an accepted call gives.
-fn read_answer(call: Call, fields: &mut Fields) -> Result<Answer, Fault>
+fn read_given(call: Call, fields: &mut Fields) -> Result<Answer, Fault>
     ensures { Reads (taken_answer (gives call)) fields.old.rest.now result fields.new.rest.now }
 {
     match call {
-        Call::Read { .. } => {
-            let value = fields.value()?;
-            Ok(Answer::Value(value))
-        }
-        Call::Close { .. } => {
-            let stamp = fields.stamp()?;
-            Ok(Answer::Stamp(stamp))
-        }
+        Call::Read { .. } => Ok(Answer::Value(fields.next(Kind::Value)? as Value)),
+        Call::Close { .. } => Ok(Answer::Stamp(fields.next(Kind::Stamp)?)),
         Call::Begin { .. }
         | Call::Write { .. }
         | Call::Certify { .. }
@@ -104,22 +59,26 @@ fn read_answer(call: Call, fields: &mut Fields) -> Result<Answer, Fault>
     }
 }
 
+// The reply with that answer, and with what the call gives.
+fn read_answer(call: Call, answer: u8, fields: &mut Fields) -> Result<Reply, Fault>
+    ensures { Reads (taken_reply call answer) fields.old.rest.now result fields.new.rest.now }
+{
+    match answer {
+        ACCEPTED => Ok(Ok(read_given(call, fields)?)),
+        refused => Ok(Err(Refusal::try_from(refused)?)),
+    }
+}
+
 // The reply that a frame holds, which depends on the call that it answers.
 pub fn read_reply(call: Call, frame: &[u8]) -> Result<Reply, Fault>
     ensures reads { result ≡ read_reply call frame.now }
     ensures back { IfOk result (λ a. (reply_of a ≡ frame.now) × Suits call a) }
 {
     let mut fields = Fields { rest: frame };
-    let number = fields.answer()?;
-    if number == ACCEPTED {
-        let answer = read_answer(call, &mut fields)?;
-        fields.end()?;
-        Ok(Ok(answer))
-    } else {
-        let refusal = refusal(number)?;
-        fields.end()?;
-        Ok(Err(refusal))
-    }
+    let answer = fields.next(Kind::Answer)? as u8;
+    let reply = read_answer(call, answer, &mut fields)?;
+    fields.end()?;
+    Ok(reply)
 }
 
 // Each reply has one frame: what is written is read again, and what is read was written so.

@@ -1,9 +1,9 @@
 // Requests as frames.
-ghost use Rattle.std.specs.Prelude.{◌≡◌, ◌≤◌, take, IfOk, Ok};
+ghost use Rattle.std.specs.Prelude.{◌≡◌, take, IfOk, Ok};
 ghost use Rattle.frame.specs.Fields.{Reads};
-ghost use Rattle.frame.specs.Drafts.{contents, longest_request};
-ghost use Rattle.frame.specs.Requests.{number as number_of, frame_of, requested, written_request, taken_call, read_request};
-ghost use Rattle.frame.specs.RoundTrip.{RequestsOneFrame};
+ghost use Rattle.frame.specs.Drafts.{contents};
+ghost use Rattle.frame.specs.Requests.{frame_of, requested, written_request, taken_call, read_request};
+ghost use Rattle.frame.specs.RoundTrip.{CallFits, RequestsOneFrame};
 
 use crate::drafts::Draft;
 use crate::faults::Fault;
@@ -12,23 +12,8 @@ use crate::kinds::Kind;
 use service::Call;
 use store::{Item, Value};
 
-const BEGIN: u8 = 1;
-
-const READ: u8 = 2;
-
-const WRITE: u8 = 3;
-
-const CLOSE: u8 = 4;
-
-const CERTIFY: u8 = 5;
-
-const COMMIT: u8 = 6;
-
-const ABORT: u8 = 7;
-
-const SETTLE: u8 = 8;
-
-// The numbers that a request may carry; its call says which of the last three count.
+// The numbers that a request may carry; its call says which of the last three count. The call is a number and no `Call`,
+// since a request may come with one that names no call.
 #[derive(Clone, Copy, PartialEq, Eq, Debug)]
 pub struct Request {
     pub tool: u8,
@@ -38,91 +23,79 @@ pub struct Request {
     pub tick: u64,
 }
 
-impl Request {
-    pub fn to_call(self) -> Result<Call, Fault>
-        ensures { result ≡ requested self }
-    {
+impl TryFrom<Request> for Call {
+    type Error = Fault;
+
+    ghost try_from_gives = { λ request answer. (answer ≡ requested request) × IfOk answer CallFits };
+
+    fn try_from(request: Request) -> Result<Call, Fault> {
         let Request {
             tool,
             call,
             item,
             value,
             tick,
-        } = self;
+        } = request;
         match call {
-            BEGIN => Ok(Call::Begin { tool }),
-            READ => Ok(Call::Read { tool, item }),
-            WRITE => Ok(Call::Write { tool, item, value }),
-            CLOSE => Ok(Call::Close { tool, tick }),
-            CERTIFY => Ok(Call::Certify { tool, item }),
-            COMMIT => Ok(Call::Commit { tool }),
-            ABORT => Ok(Call::Abort { tool }),
-            SETTLE => Ok(Call::Settle { tool, item }),
+            1 => Ok(Call::Begin { tool }),
+            2 => Ok(Call::Read { tool, item }),
+            3 => Ok(Call::Write { tool, item, value }),
+            4 => Ok(Call::Close { tool, tick }),
+            5 => Ok(Call::Certify { tool, item }),
+            6 => Ok(Call::Commit { tool }),
+            7 => Ok(Call::Abort { tool }),
+            8 => Ok(Call::Settle { tool, item }),
             _ => Err(Fault::Unknown),
         }
     }
+}
 
-    // The request for a call; the numbers that it does not take are 0.
-    pub fn of(call: Call) -> Request
-        ensures { requested result ≡ Ok call }
-    {
-        let none = Request {
-            tool: call.tool(),
-            call: number(call),
-            item: 0,
-            value: 0,
-            tick: 0,
+// The numbers that a call does not take are 0.
+impl From<Call> for Request {
+    ghost from_gives = { λ call request. requested request ≡ Ok call };
+
+    fn from(call: Call) -> Request {
+        let (number, item, value, tick) = match call {
+            Call::Begin { .. } => (1, 0, 0, 0),
+            Call::Read { item, .. } => (2, item, 0, 0),
+            Call::Write { item, value, .. } => (3, item, value, 0),
+            Call::Close { tick, .. } => (4, 0, 0, tick),
+            Call::Certify { item, .. } => (5, item, 0, 0),
+            Call::Commit { .. } => (6, 0, 0, 0),
+            Call::Abort { .. } => (7, 0, 0, 0),
+            Call::Settle { item, .. } => (8, item, 0, 0),
         };
+        Request {
+            tool: call.tool(),
+            call: number,
+            item,
+            value,
+            tick,
+        }
+    }
+}
+
+impl From<Call> for Draft {
+    ghost from_gives = { λ call draft. contents draft ≡ frame_of call };
+
+    fn from(call: Call) -> Draft {
+        let request = Request::from(call);
+        let mut frame = Draft::new();
+        frame.put(Kind::Tool, u64::from(request.tool));
+        frame.put(Kind::Call, u64::from(request.call));
         match call {
-            Call::Begin { .. } | Call::Commit { .. } | Call::Abort { .. } => none,
             Call::Read { item, .. } | Call::Certify { item, .. } | Call::Settle { item, .. } => {
-                Request { item, ..none }
+                frame.put(Kind::Item, u64::from(item));
             }
-            Call::Write { item, value, .. } => Request {
-                item,
-                value,
-                ..none
-            },
-            Call::Close { tick, .. } => Request { tick, ..none },
+            Call::Write { item, value, .. } => {
+                frame.put(Kind::Item, u64::from(item));
+                frame.put(Kind::Value, u64::from(value));
+            }
+            Call::Close { tick, .. } => frame.put(Kind::Tick, tick),
+            Call::Begin { .. } | Call::Commit { .. } | Call::Abort { .. } => {}
         }
+        frame
     }
-}
-
-// The number of a call.
-fn number(call: Call) -> u8
-    ensures { result ≡ number_of call }
-{
-    match call {
-        Call::Begin { .. } => BEGIN,
-        Call::Read { .. } => READ,
-        Call::Write { .. } => WRITE,
-        Call::Close { .. } => CLOSE,
-        Call::Certify { .. } => CERTIFY,
-        Call::Commit { .. } => COMMIT,
-        Call::Abort { .. } => ABORT,
-        Call::Settle { .. } => SETTLE,
-    }
-}
-
-fn draft(call: Call) -> Draft
-    ensures contents { contents result ≡ frame_of call }
-    ensures fits { result.used ≤ longest_request }
-{
-    let mut frame = Draft::new();
-    frame.put(Kind::Tool, u64::from(call.tool()));
-    frame.put(Kind::Call, u64::from(number(call)));
-    match call {
-        Call::Read { item, .. } | Call::Certify { item, .. } | Call::Settle { item, .. } => {
-            frame.put(Kind::Item, u64::from(item));
-        }
-        Call::Write { item, value, .. } => {
-            frame.put(Kind::Item, u64::from(item));
-            frame.put(Kind::Value, u64::from(value));
-        }
-        Call::Close { tick, .. } => frame.put(Kind::Tick, tick),
-        Call::Begin { .. } | Call::Commit { .. } | Call::Abort { .. } => {}
-    }
-    frame
 }
 
 // Writes the request's frame to the front of the buffer and answers its length; later bytes stay, and a refusal
@@ -131,41 +104,33 @@ pub fn write_request(request: Request, buffer: &mut [u8]) -> Result<usize, Fault
     ensures writes { (result, buffer.new) ≡ written_request request buffer.old }
     ensures back { IfOk result (λ n. read_request (take n buffer.new) ≡ requested request) }
 {
-    let call = request.to_call()?;
-    draft(call).copy_to(buffer)
+    let call = Call::try_from(request)?;
+    Draft::from(call).copy_to(buffer)
 }
 
 // The call with that number, with what it takes.
 fn read_call(tool: u8, number: u8, fields: &mut Fields) -> Result<Call, Fault>
     ensures { Reads (taken_call tool number) fields.old.rest.now result fields.new.rest.now }
 {
-    match number {
-        BEGIN => Ok(Call::Begin { tool }),
-        READ => {
-            let item = fields.item()?;
-            Ok(Call::Read { tool, item })
+    let mut request = Request {
+        tool,
+        call: number,
+        item: 0,
+        value: 0,
+        tick: 0,
+    };
+    match Call::try_from(request)? {
+        Call::Read { .. } | Call::Certify { .. } | Call::Settle { .. } => {
+            request.item = fields.next(Kind::Item)? as Item;
         }
-        WRITE => {
-            let item = fields.item()?;
-            let value = fields.value()?;
-            Ok(Call::Write { tool, item, value })
+        Call::Write { .. } => {
+            request.item = fields.next(Kind::Item)? as Item;
+            request.value = fields.next(Kind::Value)? as Value;
         }
-        CLOSE => {
-            let tick = fields.tick()?;
-            Ok(Call::Close { tool, tick })
-        }
-        CERTIFY => {
-            let item = fields.item()?;
-            Ok(Call::Certify { tool, item })
-        }
-        COMMIT => Ok(Call::Commit { tool }),
-        ABORT => Ok(Call::Abort { tool }),
-        SETTLE => {
-            let item = fields.item()?;
-            Ok(Call::Settle { tool, item })
-        }
-        _ => Err(Fault::Unknown),
+        Call::Close { .. } => request.tick = fields.next(Kind::Tick)?,
+        Call::Begin { .. } | Call::Commit { .. } | Call::Abort { .. } => {}
     }
+    Call::try_from(request)
 }
 
 // The call that a frame asks for.
@@ -174,8 +139,8 @@ pub fn read_request(frame: &[u8]) -> Result<Call, Fault>
     ensures back { IfOk result (λ c. frame_of c ≡ frame.now) }
 {
     let mut fields = Fields { rest: frame };
-    let tool = fields.tool()?;
-    let number = fields.call()?;
+    let tool = fields.next(Kind::Tool)? as u8;
+    let number = fields.next(Kind::Call)? as u8;
     let call = read_call(tool, number, &mut fields)?;
     fields.end()?;
     Ok(call)

@@ -12,20 +12,13 @@ const READ: [u8; 13] = [0x54, 0, 1, 2, 0x43, 0, 1, 2, 0x49, 0, 2, 0, 7];
 // Where the fields of a request begin; a write has all four.
 const HEADS: [usize; 4] = [0, 4, 8, 13];
 
-fn fault(frame: &[u8]) -> Option<Fault> {
-    match read_request(frame) {
-        Ok(_) => None,
-        Err(fault) => Some(fault),
-    }
-}
-
 // A frame with one bit of one byte turned; it is turned back.
 fn damaged(frame: &mut [u8], at: usize) -> Option<Fault> {
     if at >= frame.len() {
         return None;
     }
     frame[at] ^= 1;
-    let found = fault(frame);
+    let found = read_request(frame).err();
     frame[at] ^= 1;
     found
 }
@@ -33,7 +26,7 @@ fn damaged(frame: &mut [u8], at: usize) -> Option<Fault> {
 // Every way to damage a good frame.
 fn damages(rt: &impl Abort, frame: &mut [u8], fields: usize) {
     for length in 0..frame.len() {
-        assert_eq!(rt; fault(&frame[0..length]), Some(Fault::Cut));
+        assert_eq!(rt; read_request(&frame[..length]).err(), Some(Fault::Cut));
     }
     for head in HEADS.iter().take(fields) {
         assert_eq!(rt; damaged(frame, *head), Some(Fault::Tag));
@@ -48,12 +41,13 @@ fn good(rt: &impl Abort, request: Request, fields: usize, length: usize) -> Resu
     assert_eq!(rt; write_request(request, &mut bytes), Ok(length));
     assert!(rt; length <= 20);
     assert_eq!(rt; bytes[length], 0xEE);
-    assert_eq!(rt; fault(&bytes[0..length + 1]), Some(Fault::Trailing));
+    assert_eq!(rt;
+        read_request(&bytes[..length + 1]).err(),
+        Some(Fault::Trailing)
+    );
     let mut again = [0; 20];
-    match read_request(&bytes[0..length]) {
-        Ok(call) => assert_eq!(rt; write_request(Request::of(call), &mut again), Ok(length)),
-        Err(fault) => return Err(Fail::new(fault.meaning())),
-    }
+    let call = read_request(&bytes[0..length])?;
+    assert_eq!(rt; write_request(Request::from(call), &mut again), Ok(length));
     assert_eq!(rt; &again[0..length], &bytes[0..length]);
     if length > 0 {
         assert_eq!(rt;
@@ -103,8 +97,8 @@ fn good_and_damaged_frames(rt: HostRuntime) -> Result<(), Fail> {
         };
         assert_eq!(rt; write_request(request, &mut []), Err(Fault::Unknown));
         assert_eq!(rt;
-            fault(&[0x54, 0, 1, 1, 0x43, 0, 1, call, 0]),
-            Some(Fault::Unknown)
+            read_request(&[0x54, 0, 1, 1, 0x43, 0, 1, call, 0]),
+            Err(Fault::Unknown)
         );
     }
     Ok(())
@@ -212,10 +206,10 @@ fn replies(rt: HostRuntime) {
 
 #[test]
 fn fault_numbers(rt: HostRuntime) {
-    assert_eq!(rt; Fault::Cut.number(), 20);
-    assert_eq!(rt; Fault::Tag.number(), 21);
-    assert_eq!(rt; Fault::Length.number(), 22);
-    assert_eq!(rt; Fault::Unknown.number(), 23);
-    assert_eq!(rt; Fault::Trailing.number(), 24);
-    assert_eq!(rt; Fault::Room.number(), 25);
+    assert_eq!(rt; u8::from(Fault::Cut), 20);
+    assert_eq!(rt; u8::from(Fault::Tag), 21);
+    assert_eq!(rt; u8::from(Fault::Length), 22);
+    assert_eq!(rt; u8::from(Fault::Unknown), 23);
+    assert_eq!(rt; u8::from(Fault::Trailing), 24);
+    assert_eq!(rt; u8::from(Fault::Room), 25);
 }

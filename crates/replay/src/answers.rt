@@ -2,17 +2,18 @@
 use history::Outcome;
 use service::{Answer, Look, Refusal};
 use std::alloc::{AllocError, Global};
+use std::fmt::Display;
 use store::Fault;
 
 // The answer to a line that is none.
 pub const NOT_UNDERSTOOD: &str = "not understood";
 
-fn refused(heap: Global, number: u8, meaning: &str) -> Result<String, AllocError> {
+fn refused(heap: Global, number: u8, meaning: impl Display + Drop) -> Result<String, AllocError> {
     format!(in heap; "{number} ({meaning})")
 }
 
 pub fn refusal(heap: Global, refusal: Refusal) -> Result<String, AllocError> {
-    refused(heap, refusal.number(), refusal.meaning())
+    refused(heap, u8::from(refusal), refusal)
 }
 
 pub fn opened(heap: Global, res: Result<(), Fault>) -> Result<String, AllocError> {
@@ -23,7 +24,7 @@ pub fn opened(heap: Global, res: Result<(), Fault>) -> Result<String, AllocError
 }
 
 pub fn fault(heap: Global, fault: frame::Fault) -> Result<String, AllocError> {
-    refused(heap, fault.number(), fault.meaning())
+    refused(heap, u8::from(fault), fault)
 }
 
 pub fn outcome(heap: Global, outcome: Outcome) -> Result<String, AllocError> {

@@ -215,7 +215,7 @@ fn tune<S: Store>(
                 return Ok(());
             }
             Some(refusal) => {
-                let rule = refusal.number();
+                let rule = u8::from(refusal);
                 println!(rt; "attempt {number}: gain {next} rejected by rule {rule}, begin again")?;
             }
         }

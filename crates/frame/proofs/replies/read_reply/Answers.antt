@@ -1,15 +1,10 @@
-use Rattle.std.proofs.Common.{◌≡◌, Ok, Err, Result, sym, arith, rules}
+use Rattle.std.proofs.Common.{◌≡◌, Ok, Result, sym, arith, rules}
 use Rattle.frame.specs.declared.faults.Fault.{Fault}
 use Rattle.frame.specs.Replies.{Reply, read_reply}
 use Rattle.frame.proofs.ReplyTrips.{written_read}
 use Rattle.frame.proofs.replies.read_reply.Goals as goal
 
-pub returns-in_ok-end : goal.returns-in_ok-end
-returns-in_ok-end c =
-    let reads : ◌≡◌ {A = Result Reply Fault} (Ok (Ok c.in_ok-answer.answer)) (read_reply c.args.call c.args.frame.now) = search rules in
-    record { reads = reads; back = written_read c.args.call c.args.frame.now (Ok c.in_ok-answer.answer) (λ i. omega (arith, c.type_inv.frame i)) (sym reads) }
-
-pub returns-in_ok-end-2 : goal.returns-in_ok-end-2
-returns-in_ok-end-2 c =
-    let reads : ◌≡◌ {A = Result Reply Fault} (Ok (Err c.in_ok-refusal.refusal)) (read_reply c.args.call c.args.frame.now) = search rules in
-    record { reads = reads; back = written_read c.args.call c.args.frame.now (Err c.in_ok-refusal.refusal) (λ i. omega (arith, c.type_inv.frame i)) (sym reads) }
+pub returns : goal.returns
+returns c =
+    let reads : ◌≡◌ {A = Result Reply Fault} (Ok c.in_ok-reply.reply) (read_reply c.args.call c.args.frame.now) = search rules in
+    record { reads = reads; back = written_read c.args.call c.args.frame.now c.in_ok-reply.reply (λ i. omega (arith, c.type_inv.frame i)) (sym reads) }
