@@ -1,17 +1,13 @@
 -- Numbers and their bytes, once, over the width. Assumes nothing.
 use Rattle.std.proofs.Common.{◌≡◌, ℕ, zero, suc, ◌+◌, ◌-◌, ◌*◌, ◌/◌, ◌%◌, ◌^◌, ◌<◌, ◌≤◌, List, [], ◌∷◌, length, sym, refl, ap, ◌∙◌, mod-eq_of_lt, mul_assoc, add-mul, arith}
-use native.Mathlib.Nat.{pow-succ', mod-one, one-le-pow, mul-add-div_right, mul-add-mod_self_right}
-use lib.Arith.{mod-mul, digits_div}
+use native.Mathlib.Nat.{pow-succ', one-le-pow, mul-add-div_right, mul-add-mod_self_right}
+use lib.Arith.{digits_div}
 use Rattle.std.specs.Int.Digits.{number_from_digits_after, AllBelowBase}
 use Rattle.std.proofs.lemmas.Int.Digits.{number_lt}
 use borrow.Rule.Slice.PartMut.{put_mid}
 use Rattle.std.specs.Int.{w64, from_be_bytes}
 use Rattle.store.specs.Bytes.{number_in, bytes_of}
 use Rattle.frame.specs.RoundTrip.{Bytes}
-
-pub length_bytes_of : (width n : ℕ) → length (bytes_of width n) ≡ width
-length_bytes_of zero n = refl
-length_bytes_of (suc width) n = ap suc (length_bytes_of width n)
 
 -- a digit in front
 number_after : (n : ℕ) (ds : List ℕ) → number_from_digits_after 256 n ds ≡ n * 256 ^ length ds + number_in ds
@@ -30,16 +26,6 @@ digits (b ∷ bs) bytes = (bytes 0, digits bs (λ i. bytes (suc i)))
 
 pub number_bound : (bs : List ℕ) → Bytes bs → number_in bs < 256 ^ length bs
 number_bound bs bytes = number_lt 256 bs (digits bs bytes)
-
-mod_after : (width n : ℕ) → number_in (bytes_of width n) ≡ n % 256 ^ width
-mod_after zero n = sym (mod-one n)
-mod_after (suc width) n =
-    let low : 0 < 256 ^ width = one-le-pow width 256 (omega arith) in
-    let split : n % (256 * 256 ^ width) ≡ (n / 256 ^ width % 256) * 256 ^ width + n % 256 ^ width = mod-mul n (omega arith) low in
-    number_after (0 + n / 256 ^ width % 256) (bytes_of width n) ∙ rw (length_bytes_of width n, mod_after width n, pow-succ') (omega arith)
-
-pub number_in_bytes_of : (width n : ℕ) → n < 256 ^ width → number_in (bytes_of width n) ≡ n
-number_in_bytes_of width n fits = mod_after width n ∙ mod-eq_of_lt fits
 
 -- what stands above the width does not count
 bytes_of_high : (width n high : ℕ) → bytes_of width (high * 256 ^ width + n) ≡ bytes_of width n

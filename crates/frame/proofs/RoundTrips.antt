@@ -13,7 +13,8 @@ use Rattle.frame.specs.declared.kinds.Kind.TheVariants as kind
 use Rattle.frame.specs.Fields.{tag, width, field, taken, bind}
 use Rattle.frame.specs.Requests.{frame_of, arguments, number, taken_call, ended, read_request, with_none, with_one}
 use Rattle.frame.specs.RoundTrip.{Bytes, Fits, CallFits, RequestsOneFrame}
-use Rattle.frame.proofs.Bytes.{length_bytes_of, number_in_bytes_of, bytes_of_number_in}
+use Rattle.store.proofs.Numbers.{length_bytes_of, number_in_bytes_of}
+use Rattle.frame.proofs.Bytes.{bytes_of_number_in}
 use Rattle.frame.proofs.Taking.{some_width, found}
 
 -- a field that was written is read

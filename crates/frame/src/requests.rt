@@ -12,6 +12,23 @@ use crate::kinds::Kind;
 use service::Call;
 use store::{Item, Value};
 
+// The number of each call in a frame, read in both directions. It is no discriminant of `Call`, whose cases carry values.
+const BEGIN: u8 = 1;
+
+const READ: u8 = 2;
+
+const WRITE: u8 = 3;
+
+const CLOSE: u8 = 4;
+
+const CERTIFY: u8 = 5;
+
+const COMMIT: u8 = 6;
+
+const ABORT: u8 = 7;
+
+const SETTLE: u8 = 8;
+
 // The numbers that a request may carry; its call says which of the last three count. The call is a number and no `Call`,
 // since a request may come with one that names no call.
 #[derive(Clone, Copy, PartialEq, Eq, Debug)]
@@ -37,14 +54,14 @@ impl TryFrom<Request> for Call {
             tick,
         } = request;
         match call {
-            1 => Ok(Call::Begin { tool }),
-            2 => Ok(Call::Read { tool, item }),
-            3 => Ok(Call::Write { tool, item, value }),
-            4 => Ok(Call::Close { tool, tick }),
-            5 => Ok(Call::Certify { tool, item }),
-            6 => Ok(Call::Commit { tool }),
-            7 => Ok(Call::Abort { tool }),
-            8 => Ok(Call::Settle { tool, item }),
+            BEGIN => Ok(Call::Begin { tool }),
+            READ => Ok(Call::Read { tool, item }),
+            WRITE => Ok(Call::Write { tool, item, value }),
+            CLOSE => Ok(Call::Close { tool, tick }),
+            CERTIFY => Ok(Call::Certify { tool, item }),
+            COMMIT => Ok(Call::Commit { tool }),
+            ABORT => Ok(Call::Abort { tool }),
+            SETTLE => Ok(Call::Settle { tool, item }),
             _ => Err(Fault::Unknown),
         }
     }
@@ -56,14 +73,14 @@ impl From<Call> for Request {
 
     fn from(call: Call) -> Request {
         let (number, item, value, tick) = match call {
-            Call::Begin { .. } => (1, 0, 0, 0),
-            Call::Read { item, .. } => (2, item, 0, 0),
-            Call::Write { item, value, .. } => (3, item, value, 0),
-            Call::Close { tick, .. } => (4, 0, 0, tick),
-            Call::Certify { item, .. } => (5, item, 0, 0),
-            Call::Commit { .. } => (6, 0, 0, 0),
-            Call::Abort { .. } => (7, 0, 0, 0),
-            Call::Settle { item, .. } => (8, item, 0, 0),
+            Call::Begin { .. } => (BEGIN, 0, 0, 0),
+            Call::Read { item, .. } => (READ, item, 0, 0),
+            Call::Write { item, value, .. } => (WRITE, item, value, 0),
+            Call::Close { tick, .. } => (CLOSE, 0, 0, tick),
+            Call::Certify { item, .. } => (CERTIFY, item, 0, 0),
+            Call::Commit { .. } => (COMMIT, 0, 0, 0),
+            Call::Abort { .. } => (ABORT, 0, 0, 0),
+            Call::Settle { item, .. } => (SETTLE, item, 0, 0),
         };
         Request {
             tool: call.tool(),

@@ -5,7 +5,7 @@ mod Images
 mod Lasts
 mod LogLaws
 mod Made
-mod Numbers
+pub mod Numbers
 mod PairLaws
 mod Passes
 mod Places
