@@ -1,5 +1,5 @@
 -- Calls made one after the other.
-use Rattle.std.proofs.Common.{◌≡◌, Bool, true, false, List, ◌∷◌, ◌++◌, Some, Ok, Err, Result, sym, refl, ap, ◌∙◌, subst}
+use Rattle.std.proofs.Common.{◌≡◌, Bool, true, false, List, ◌∷◌, ◌++◌, Ok, Err, Result, sym, refl, ap, ◌∙◌, subst}
 use Rattle.store.specs.declared.Version.{Version}
 use Rattle.service.specs.declared.refusals.Refusal.{Refusal}
 use Rattle.service.specs.declared.calls.Call.{Call}
@@ -68,5 +68,5 @@ module _ {S : Type 0} (versions : S → List Version) where
     pub refused_made : (r : Refusal) → Makes versions x c (Err r) y → Made versions x (up_to_refusal (state_of versions x) (c ∷ cs)) y
     refused_made r m = subst (λ (p : Stepped). Made versions x (c ∷ if_accepted p.0 (up_to_refusal p.1 cs)) y) (sym m.does) (more c (Err r) m none)
 
-    pub refused_first : (r : Refusal) → Makes versions x c (Err r) y → first_refusal (state_of versions x) (c ∷ cs) ≡ Some r
+    pub refused_first : (r : Refusal) → Makes versions x c (Err r) y → first_refusal (state_of versions x) (c ∷ cs) ≡ Err r
     refused_first r m = ap (λ (p : Stepped). refusal_or p.0 (first_refusal p.1 cs)) m.does

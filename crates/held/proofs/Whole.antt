@@ -1,5 +1,5 @@
 -- A whole transaction certified or settled.
-use Rattle.std.proofs.Common.{◌≡◌, ℕ, ◌+◌, ◌<◌, ◌≤◌, Bool, true, false, cond, List, [], ◌∷◌, ◌++◌, map, length, get_or, drop, Some, None, Ok, Err, Option, Result, sym, ap, ◌∙◌, subst}
+use Rattle.std.proofs.Common.{◌≡◌, ℕ, ◌+◌, ◌<◌, ◌≤◌, Bool, true, false, cond, List, [], ◌∷◌, ◌++◌, map, length, get_or, drop, Ok, Err, Result, sym, ap, ◌∙◌, subst}
 use Rattle.std.proofs.lemmas.List.{drop_more, drop_all}
 use Rattle.store.specs.declared.Version.{Version}
 use Rattle.service.specs.declared.refusals.Refusal.{Refusal}
@@ -53,7 +53,7 @@ module _ {S : Type 0} (versions : S → List Version) where
           ∙ (ap (λ (l : List ℕ). first_refusal (state_of versions y) (map (Certify t) l)) (drop_more is k 0 h) ∙ accepted_first versions y w (Certify t item) rest a m);
     }
 
-    pub certifies_not : (w : Service S) (r : Refusal) → k < length is → Makes versions y (Certify t (get_or is k 0)) (Err r) w → MadeUpTo versions x (map (Certify t) is) (Some r) w
+    pub certifies_not : (w : Service S) (r : Refusal) → k < length is → Makes versions y (Certify t (get_or is k 0)) (Err r) w → MadeUpTo versions x (map (Certify t) is) (Err r) w
     unfolding item rest
     certifies_not w r h m =
         up_to
@@ -61,7 +61,7 @@ module _ {S : Type 0} (versions : S → List Version) where
         (subst (λ (l : List ℕ). Made versions y (up_to_refusal (state_of versions y) (map (Certify t) l)) w) (sym (drop_more is k 0 h)) (refused_made versions y w (Certify t item) rest r m)))
         (sym (on.first ∙ (ap (λ (l : List ℕ). first_refusal (state_of versions y) (map (Certify t) l)) (drop_more is k 0 h) ∙ refused_first versions y w (Certify t item) rest r m)))
 
-    pub certifies_all_made : length is ≤ k → MadeUpTo versions x (map (Certify t) is) None y
+    pub certifies_all_made : length is ≤ k → MadeUpTo versions x (map (Certify t) is) (Ok tt) y
     certifies_all_made h =
         up_to (on.made y (subst (λ (l : List ℕ). Made versions y (up_to_refusal (state_of versions y) (map (Certify t) l)) y) (sym (drop_all k is h)) none))
         (sym (on.first ∙ ap (λ (l : List ℕ). first_refusal (state_of versions y) (map (Certify t) l)) (drop_all k is h)))
@@ -80,7 +80,7 @@ module _ {S : Type 0} (versions : S → List Version) where
   -- certified up to the first refusal, and what comes after it
 
   module _ (x y : Service S) (k : Closed) (is-closed : is_under IsClosed (state_of versions x) k.tool k.stamp ≡ true)
-      (o : Option Refusal) (m : MadeUpTo versions x (certifications k.tool (state_of versions x)) o y) (r : Result Grant Uncertified) (f : r ≡ granted k o) where
+      (o : Result (Unit {0}) Refusal) (m : MadeUpTo versions x (certifications k.tool (state_of versions x)) o y) (r : Result Grant Uncertified) (f : r ≡ granted k o) where
     certified : (z : Service S) → Made versions y (afterwards k.tool o (state_of versions y)) z → Performs versions x (certifies_all k) r z
     certified z n = go m
       where
@@ -88,7 +88,7 @@ module _ {S : Type 0} (versions : S → List Version) where
         go (up_to ms e) =
             let up = up_to_refusal (state_of versions x) (certifications k.tool (state_of versions x)) in
             let_through versions x (λ s. is_under IsClosed s k.tool k.stamp) (Err (Refused WrongState k)) (certifying k) z r is-closed
-            (subst (λ (v : Option Refusal). Made versions x (up ++ afterwards k.tool v (after (state_of versions x) up)) z) e
+            (subst (λ (v : Result (Unit {0}) Refusal). Made versions x (up ++ afterwards k.tool v (after (state_of versions x) up)) z) e
             (subst (λ (s : State). Made versions x (up ++ afterwards k.tool o s) z) (sym (made_after versions ms)) (made_append versions ms n)))
             (f ∙ ap (granted k) e)
 

@@ -1,5 +1,5 @@
 -- Lists of calls, made one after the other on one service.
-use Rattle.std.specs.Prelude.{◌≡◌, List, [], ◌∷◌, Some, None, Ok, Err, Option, Result}
+use Rattle.std.specs.Prelude.{◌≡◌, List, [], ◌∷◌, Ok, Err, Result}
 use Rattle.store.specs.declared.Version.{Version}
 use Rattle.service.specs.declared.refusals.Refusal.{Refusal}
 use Rattle.service.specs.declared.calls.Call.{Call}
@@ -34,13 +34,13 @@ abbrev pub up_to_refusal : State → List Call → List Call
 up_to_refusal s [] = []
 up_to_refusal s (c ∷ cs) = c ∷ if_accepted (step s c).0 (up_to_refusal (step s c).1 cs)
 
-abbrev pub refusal_or : Result Answer Refusal → Option Refusal → Option Refusal
+abbrev pub refusal_or : Result Answer Refusal → Result (Unit {0}) Refusal → Result (Unit {0}) Refusal
 refusal_or (Ok a) o = o
-refusal_or (Err r) o = Some r
+refusal_or (Err r) o = Err r
 
--- and that refusal
-abbrev pub first_refusal : State → List Call → Option Refusal
-first_refusal s [] = None
+-- and that refusal, if there is one
+abbrev pub first_refusal : State → List Call → Result (Unit {0}) Refusal
+first_refusal s [] = Ok tt
 first_refusal s (c ∷ cs) = refusal_or (step s c).0 (first_refusal (step s c).1 cs)
 
 -- what an operation calls, in this order, and what it answers
@@ -55,8 +55,8 @@ module _ {S : Type 0} (versions : S → List Version) where
     more : {x y z : Service S} {cs : List Call} (c : Call) (a : Result Answer Refusal) → Makes versions x c a y → Made y cs z → Made x (c ∷ cs) z
 
   -- x makes these calls up to the first refusal, if there is one, and is y afterwards
-  pub data MadeUpTo : Service S → List Call → Option Refusal → Service S → Type 0 where
-    up_to : {x y : Service S} {cs : List Call} {o : Option Refusal} → Made x (up_to_refusal (state_of versions x) cs) y → o ≡ first_refusal (state_of versions x) cs → MadeUpTo x cs o y
+  pub data MadeUpTo : Service S → List Call → Result (Unit {0}) Refusal → Service S → Type 0 where
+    up_to : {x y : Service S} {cs : List Call} {o : Result (Unit {0}) Refusal} → Made x (up_to_refusal (state_of versions x) cs) y → o ≡ first_refusal (state_of versions x) cs → MadeUpTo x cs o y
 
   -- x does this, answers a, and is y afterwards; whatever run from start led to x goes on with the calls, and keeps
   -- the law

@@ -1,5 +1,5 @@
 -- What each operation of a held transaction calls and answers.
-use Rattle.std.specs.Prelude.{◌≡◌, ℕ, Bool, false, cond, ◌||◌, List, [], ◌∷◌, ◌++◌, map, Some, None, Ok, Err, Option, Result}
+use Rattle.std.specs.Prelude.{◌≡◌, ℕ, Bool, false, cond, ◌||◌, List, [], ◌∷◌, ◌++◌, map, Ok, Err, Result}
 use Rattle.service.specs.declared.refusals.Refusal.{Refusal}
 use Rattle.service.specs.declared.refusals.Refusal.TheVariants.{WrongState}
 use Rattle.service.specs.declared.calls.Call.{Call}
@@ -78,18 +78,18 @@ settling c s = c ∷ if_accepted (step s c).0 (settlements (tool_of c) (step s c
 abbrev pub certifications : ℕ → State → List Call
 certifications t s = map (Certify t) (bare_items s t)
 
-abbrev pub is_rejection : Option Refusal → Bool
-is_rejection None = false
-is_rejection (Some r) = rejects r
+abbrev pub is_rejection : Result (Unit {0}) Refusal → Bool
+is_rejection (Ok u) = false
+is_rejection (Err r) = rejects r
 
 -- after a rejection it aborts and settles everything
-abbrev pub afterwards : ℕ → Option Refusal → State → List Call
+abbrev pub afterwards : ℕ → Result (Unit {0}) Refusal → State → List Call
 afterwards t o s = cond (is_rejection o) (settling (Abort t) s) []
 
 -- a rejection ends the transaction, and any other refusal hands it back
-abbrev pub granted : Closed → Option Refusal → Result Grant Uncertified
-granted x None = Ok (record { tool = x.tool; stamp = x.stamp })
-granted x (Some r) = Err (cond (rejects r) (Rejected r) (Refused r x))
+abbrev pub granted : Closed → Result (Unit {0}) Refusal → Result Grant Uncertified
+granted x (Ok u) = Ok (record { tool = x.tool; stamp = x.stamp })
+granted x (Err r) = Err (cond (rejects r) (Rejected r) (Refused r x))
 
 abbrev pub certifying : Closed → State → Deed (Result Grant Uncertified)
 certifying x s = record {

@@ -2,7 +2,7 @@
 ghost use Rattle.std.specs.Prelude.{◌≡◌};
 ghost use Rattle.service.specs.Services.{state_of};
 ghost use Rattle.held.specs.Calls.{Performs};
-ghost use Rattle.held.specs.Held.{is_abortable, aborts_closed, is_rejection, granted, certifies_all};
+ghost use Rattle.held.specs.Held.{is_abortable, aborts_closed, certifies_all};
 
 use crate::steps::{certify_bare, undo};
 use crate::transactions::{Closed, Grant, Uncertified};
@@ -14,32 +14,6 @@ fn is_abortable<S: Store>(service: &Service<S>, tool: u8, stamp: Stamp) -> bool
     ensures { result ≡ is_abortable (state_of S.versions service.now) tool stamp }
 {
     service.is_closed(tool, stamp) || service.is_failed(tool, stamp)
-}
-
-fn is_rejection(refusal: Option<Refusal>) -> bool
-    ensures { result ≡ is_rejection refusal }
-{
-    match refusal {
-        Some(refusal) => refusal.is_rejection(),
-        None => false,
-    }
-}
-
-// A rejection ends the transaction, and any other refusal hands it back.
-fn granted(held: Closed, refusal: Option<Refusal>) -> Result<Grant, Uncertified>
-    ensures { result ≡ granted held refusal }
-{
-    let Closed { tool, stamp } = held;
-    match refusal {
-        None => Ok(Grant { tool, stamp }),
-        Some(refusal) => {
-            if refusal.is_rejection() {
-                Err(Uncertified::Rejected(refusal))
-            } else {
-                Err(Uncertified::Refused(refusal, Closed { tool, stamp }))
-            }
-        }
-    }
 }
 
 impl Closed {
@@ -58,11 +32,14 @@ impl Closed {
         if !service.is_closed(tool, stamp) {
             return Err(Uncertified::Refused(Refusal::WrongState, Closed { tool, stamp }));
         }
-        let refusal = certify_bare(service, tool);
-        if is_rejection(refusal) {
-            undo(service, tool);
+        match certify_bare(service, tool) {
+            Ok(()) => Ok(Grant { tool, stamp }),
+            Err(refusal) if refusal.is_rejection() => {
+                undo(service, tool);
+                Err(Uncertified::Rejected(refusal))
+            }
+            Err(refusal) => Err(Uncertified::Refused(refusal, Closed { tool, stamp })),
         }
-        granted(Closed { tool, stamp }, refusal)
     }
 
     // Gives the transaction up; its tokens stand until they are settled.
@@ -73,9 +50,8 @@ impl Closed {
         if !is_abortable(service, tool, stamp) {
             return Err((Refusal::WrongState, Closed { tool, stamp }));
         }
-        match service.abort(tool) {
-            Ok(()) => Ok(()),
-            Err(refusal) => Err((refusal, Closed { tool, stamp })),
-        }
+        service
+            .abort(tool)
+            .map_err(|refusal| (refusal, Closed { tool, stamp }))
     }
 }

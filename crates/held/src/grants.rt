@@ -30,10 +30,7 @@ impl Grant {
         if !service.is_closed(tool, stamp) {
             return Err((Refusal::WrongState, Grant { tool, stamp }));
         }
-        match finish(service, call) {
-            Ok(()) => Ok(()),
-            Err(refusal) => Err((refusal, Grant { tool, stamp })),
-        }
+        finish(service, call).map_err(|refusal| (refusal, Grant { tool, stamp }))
     }
 
     // Commits the transaction and settles everything.

@@ -1,5 +1,4 @@
 // The open transaction.
-ghost use Rattle.std.specs.Prelude.{◌≡◌};
 ghost use Rattle.service.specs.declared.calls.Call.TheVariants.{Begin, Read, Write, Close, Abort};
 ghost use Rattle.service.specs.Services.{Makes, done, valued};
 ghost use Rattle.held.specs.Held.{begun, BegunFor, closed_at, ClosedFrom, ended, Back};
@@ -47,10 +46,10 @@ impl Open {
         ensures held { ClosedFrom self result }
     {
         let Open { tool } = self;
-        match service.close(tool, tick) {
-            Ok(stamp) => Ok(Closed { tool, stamp }),
-            Err(refusal) => Err((refusal, Open { tool })),
-        }
+        service
+            .close(tool, tick)
+            .map(|stamp| Closed { tool, stamp })
+            .map_err(|refusal| (refusal, Open { tool }))
     }
 
     // Gives the transaction up.
@@ -59,9 +58,8 @@ impl Open {
         ensures back { Back self result }
     {
         let Open { tool } = self;
-        match service.abort(tool) {
-            Ok(()) => Ok(()),
-            Err(refusal) => Err((refusal, Open { tool })),
-        }
+        service
+            .abort(tool)
+            .map_err(|refusal| (refusal, Open { tool }))
     }
 }

@@ -10,19 +10,17 @@ use service::{Call, Refusal, Service};
 use store::{Item, Store};
 
 // Certifies these items, up to the first refusal.
-fn certify_each<S: Store>(service: &mut Service<S>, tool: u8, items: &[Item]) -> Option<Refusal>
+fn certify_each<S: Store>(service: &mut Service<S>, tool: u8, items: &[Item]) -> Result<(), Refusal>
     ensures { MadeUpTo S.versions service.old (map (Certify tool) items.now) result service.new }
 {
     for item in items {
-        if let Err(refusal) = service.certify(tool, *item) {
-            return Some(refusal);
-        }
+        service.certify(tool, *item)?;
     }
-    None
+    Ok(())
 }
 
 // Certifies the entries without a token, up to the first refusal.
-pub(crate) fn certify_bare<S: Store>(service: &mut Service<S>, tool: u8) -> Option<Refusal>
+pub(crate) fn certify_bare<S: Store>(service: &mut Service<S>, tool: u8) -> Result<(), Refusal>
     ensures { MadeUpTo S.versions service.old (certifications tool (state_of S.versions service.old)) result service.new }
 {
     let bare = service.bare_items(tool);

@@ -6,55 +6,77 @@ use store::{Log, Pair, Store, Table};
 
 // A test looks at its answers once nothing is held any more, since a check that fails would let the transaction fall.
 
-fn closed(answer: Result<Closed, (Refusal, Open)>) -> Result<Closed, Fail> {
-    match answer {
-        Ok(closed) => Ok(closed),
-        Err((_, Open { tool: _ })) => Err(Fail::new("not closed")),
+// What a test that fails has in hand.
+trait LetGo {
+    fn let_go(self);
+}
+
+impl LetGo for () {
+    fn let_go(self) {}
+}
+
+impl LetGo for Open {
+    fn let_go(self) {
+        let Open { tool: _ } = self;
     }
 }
 
-fn granted(answer: Result<Grant, Uncertified>) -> Result<Grant, Fail> {
-    match answer {
-        Ok(grant) => Ok(grant),
-        Err(Uncertified::Rejected(_)) => Err(Fail::new("rejected")),
-        Err(Uncertified::Refused(_, Closed { tool: _, stamp: _ })) => Err(Fail::new("refused")),
+impl LetGo for Closed {
+    fn let_go(self) {
+        let Closed { tool: _, stamp: _ } = self;
     }
 }
 
-fn spent(answer: Result<(), (Refusal, Grant)>) -> Result<(), Fail> {
+impl LetGo for Grant {
+    fn let_go(self) {
+        let Grant { tool: _, stamp: _ } = self;
+    }
+}
+
+// The answer alone: what a refusal hands back is let go.
+fn answered<T, H: LetGo>(answer: Result<T, (Refusal, H)>) -> Result<T, Refusal> {
     match answer {
-        Ok(()) => Ok(()),
-        Err((_, Grant { tool: _, stamp: _ })) => Err(Fail::new("not spent")),
+        Ok(value) => Ok(value),
+        Err((refusal, held)) => {
+            held.let_go();
+            Err(refusal)
+        }
+    }
+}
+
+// The refusal, with what it hands back.
+fn refused<T: LetGo, E>(answer: Result<T, E>) -> Result<E, Fail> {
+    match answer {
+        Ok(value) => {
+            value.let_go();
+            Err(Fail::new("not refused"))
+        }
+        Err(refusal) => Ok(refusal),
+    }
+}
+
+// A rejection is an answer of its own.
+fn certified(
+    answer: Result<Grant, Uncertified>,
+) -> Result<Result<Grant, (Refusal, Closed)>, Refusal> {
+    match answer {
+        Ok(grant) => Ok(Ok(grant)),
+        Err(Uncertified::Rejected(refusal)) => Err(refusal),
+        Err(Uncertified::Refused(refusal, held)) => Ok(Err((refusal, held))),
     }
 }
 
 fn rejected(answer: Result<Grant, Uncertified>) -> Result<Refusal, Fail> {
-    match answer {
-        Ok(Grant { tool: _, stamp: _ }) => Err(Fail::new("granted")),
-        Err(Uncertified::Rejected(refusal)) => Ok(refusal),
-        Err(Uncertified::Refused(_, Closed { tool: _, stamp: _ })) => Err(Fail::new("refused")),
-    }
-}
-
-fn uncertified(answer: Result<Grant, Uncertified>) -> Result<(Refusal, Closed), Fail> {
-    match answer {
-        Ok(Grant { tool: _, stamp: _ }) => Err(Fail::new("granted")),
-        Err(Uncertified::Rejected(_)) => Err(Fail::new("rejected")),
-        Err(Uncertified::Refused(refusal, closed)) => Ok((refusal, closed)),
-    }
-}
-
-fn still_open(answer: Result<Closed, (Refusal, Open)>) -> Result<(Refusal, Open), Fail> {
-    match answer {
-        Ok(Closed { tool: _, stamp: _ }) => Err(Fail::new("closed")),
-        Err(back) => Ok(back),
-    }
-}
-
-fn unspent(answer: Result<(), (Refusal, Grant)>) -> Result<(Refusal, Grant), Fail> {
-    match answer {
-        Ok(()) => Err(Fail::new("spent")),
-        Err(back) => Ok(back),
+    match certified(answer) {
+        Ok(Ok(grant)) => {
+            grant.let_go();
+            Err(Fail::new("granted"))
+        }
+        Ok(Err((_, held))) => {
+            held.let_go();
+            Err(Fail::new("refused"))
+        }
+        Err(refusal) => Ok(refusal),
     }
 }
 
@@ -70,17 +92,13 @@ fn overwrite<S: Store>(service: &mut Service<S>, tool: u8, item: u16) -> Result<
 
 // How many tokens the item has, of each kind.
 fn tokens<S: Store>(service: &Service<S>, item: u16) -> (usize, usize) {
-    match service.peek(item) {
-        Ok(look) => (look.reads, look.writes),
-        Err(_) => (0, 0),
-    }
+    service
+        .peek(item)
+        .map_or((0, 0), |look| (look.reads, look.writes))
 }
 
 fn value<S: Store>(service: &Service<S>, item: u16) -> u32 {
-    match service.peek(item) {
-        Ok(look) => look.version.value,
-        Err(_) => 0,
-    }
+    service.peek(item).map_or(0, |look| look.version.value)
 }
 
 fn commits<S: Store + Drop>(rt: &impl Abort, store: S) -> Result<(), Fail> {
@@ -90,12 +108,12 @@ fn commits<S: Store + Drop>(rt: &impl Abort, store: S) -> Result<(), Fail> {
     let written = held.write(&mut service, 1, 7);
     let again = held.read(&mut service, 1);
     let unknown = held.write(&mut service, 9, 7);
-    let held = closed(held.close(&mut service, 9))?;
+    let held = answered(held.close(&mut service, 9))?;
     let stamp = held.stamp();
-    let grant = granted(held.certify_all(&mut service))?;
+    let grant = answered(certified(held.certify_all(&mut service))?)?;
     let standing = (tokens(&service, 0), tokens(&service, 1));
     let (tool, same) = (grant.tool(), grant.stamp());
-    spent(grant.commit_all(&mut service))?;
+    answered(grant.commit_all(&mut service))?;
     assert_eq!(rt; read, Ok(0));
     assert_eq!(rt; written, Ok(()));
     assert_eq!(rt; again, Ok(7));
@@ -113,9 +131,9 @@ fn aborts<S: Store + Drop>(rt: &impl Abort, store: S) -> Result<(), Fail> {
     let mut service = Service::start(store);
     let held = Open::begin(&mut service, 3)?;
     let written = held.write(&mut service, 1, 7);
-    let held = closed(held.close(&mut service, 0))?;
-    let grant = granted(held.certify_all(&mut service))?;
-    spent(grant.abort_all(&mut service))?;
+    let held = answered(held.close(&mut service, 0))?;
+    let grant = answered(certified(held.certify_all(&mut service))?)?;
+    answered(grant.abort_all(&mut service))?;
     assert_eq!(rt; written, Ok(()));
     assert_eq!(rt; value(&service, 1), 0);
     assert_eq!(rt; tokens(&service, 1), (0, 0));
@@ -130,7 +148,7 @@ fn is_rejected<S: Store + Drop>(rt: &impl Abort, store: S) -> Result<(), Fail> {
     let written = held.write(&mut service, 1, 7);
     let read = held.read(&mut service, 0);
     let other = overwrite(&mut service, 5, 0);
-    let held = closed(held.close(&mut service, 9))?;
+    let held = answered(held.close(&mut service, 9))?;
     let why = rejected(held.certify_all(&mut service))?;
     assert_eq!(rt; written, Ok(()));
     assert_eq!(rt; read, Ok(0));
@@ -146,47 +164,34 @@ fn is_rejected<S: Store + Drop>(rt: &impl Abort, store: S) -> Result<(), Fail> {
 fn opens_again<S: Store + Drop>(rt: &impl Abort, store: S) -> Result<(), Fail> {
     let mut service = Service::start(store);
     let held = Open::begin(&mut service, 3)?;
-    let (late, held) = still_open(held.close(&mut service, 1 << 40))?;
+    let (late, held) = refused(held.close(&mut service, 1 << 40))?;
     let gone = service.abort(3);
-    let (closing, held) = still_open(held.close(&mut service, 0))?;
-    let (aborting, held) = match held.abort(&mut service) {
-        Ok(()) => return Err(Fail::new("aborted")),
-        Err(back) => back,
-    };
+    let (closing, held) = refused(held.close(&mut service, 0))?;
+    let (aborting, held) = refused(held.abort(&mut service))?;
     let begun = service.begin(3);
-    let aborted = match held.abort(&mut service) {
-        Ok(()) => Ok(()),
-        Err((refusal, Open { tool: _ })) => Err(refusal),
-    };
+    let aborted = answered(held.abort(&mut service));
     assert_eq!(rt; late, Refusal::TickTooLarge);
     assert_eq!(rt; gone, Ok(()));
     assert_eq!(rt; closing, Refusal::WrongState);
     assert_eq!(rt; aborting, Refusal::WrongState);
     assert_eq!(rt; begun, Ok(()));
     assert_eq!(rt; aborted, Ok(()));
-    match Open::begin(&mut service, 16) {
-        Ok(Open { tool: _ }) => Err(Fail::new("opened")),
-        Err(refusal) => {
-            assert_eq!(rt; refusal, Refusal::UnknownTool);
-            Ok(())
-        },
-    }
+    let unknown = refused(Open::begin(&mut service, 16))?;
+    assert_eq!(rt; unknown, Refusal::UnknownTool);
+    Ok(())
 }
 
 // The tool has gone on to another transaction, closed under another stamp.
 fn another_stamp<S: Store + Drop>(rt: &impl Abort, store: S) -> Result<(), Fail> {
     let mut service = Service::start(store);
     let held = Open::begin(&mut service, 3)?;
-    let held = closed(held.close(&mut service, 0))?;
+    let held = answered(held.close(&mut service, 0))?;
     let gone = service.abort(3);
     let begun = service.begin(3);
-    let (early, held) = uncertified(held.certify_all(&mut service))?;
+    let (early, held) = refused(certified(held.certify_all(&mut service))?)?;
     let next = service.close(3, 0);
-    let (certifying, held) = uncertified(held.certify_all(&mut service))?;
-    let (aborting, Closed { tool, stamp }) = match held.abort(&mut service) {
-        Ok(()) => return Err(Fail::new("aborted")),
-        Err(back) => back,
-    };
+    let (certifying, held) = refused(certified(held.certify_all(&mut service))?)?;
+    let (aborting, Closed { tool, stamp }) = refused(held.abort(&mut service))?;
     assert_eq!(rt; gone, Ok(()));
     assert_eq!(rt; begun, Ok(()));
     assert_eq!(rt; early, Refusal::WrongState);
@@ -203,13 +208,10 @@ fn has_failed<S: Store + Drop>(rt: &impl Abort, store: S) -> Result<(), Fail> {
     let held = Open::begin(&mut service, 3)?;
     let read = held.read(&mut service, 0);
     let other = overwrite(&mut service, 5, 0);
-    let held = closed(held.close(&mut service, 9))?;
+    let held = answered(held.close(&mut service, 9))?;
     let single = service.certify(3, 0);
-    let (certifying, held) = uncertified(held.certify_all(&mut service))?;
-    let aborted = match held.abort(&mut service) {
-        Ok(()) => Ok(()),
-        Err((refusal, Closed { tool: _, stamp: _ })) => Err(refusal),
-    };
+    let (certifying, held) = refused(certified(held.certify_all(&mut service))?)?;
+    let aborted = answered(held.abort(&mut service));
     assert_eq!(rt; read, Ok(0));
     assert_eq!(rt; other, Ok(()));
     assert_eq!(rt; single, Err(Refusal::VersionChanged));
@@ -223,15 +225,15 @@ fn waits<S: Store + Drop>(rt: &impl Abort, store: S) -> Result<(), Fail> {
     let mut service = Service::start(store);
     let held = Open::begin(&mut service, 3)?;
     let written = held.write(&mut service, 0, 7);
-    let held = closed(held.close(&mut service, 0))?;
-    let grant = granted(held.certify_all(&mut service))?;
-    let (early, grant) = unspent(grant.give_up(&service))?;
+    let held = answered(held.close(&mut service, 0))?;
+    let grant = answered(certified(held.certify_all(&mut service))?)?;
+    let (early, grant) = refused(grant.give_up(&service))?;
     let single = service.commit(3);
-    let (committing, grant) = unspent(grant.commit_all(&mut service))?;
-    let (aborting, grant) = unspent(grant.abort_all(&mut service))?;
-    let (waiting, grant) = unspent(grant.give_up(&service))?;
+    let (committing, grant) = refused(grant.commit_all(&mut service))?;
+    let (aborting, grant) = refused(grant.abort_all(&mut service))?;
+    let (waiting, grant) = refused(grant.give_up(&service))?;
     let settled = service.settle(3, 0);
-    spent(grant.give_up(&service))?;
+    answered(grant.give_up(&service))?;
     assert_eq!(rt; written, Ok(()));
     assert_eq!(rt; early, Refusal::WrongState);
     assert_eq!(rt; single, Ok(()));
@@ -247,10 +249,10 @@ fn waits<S: Store + Drop>(rt: &impl Abort, store: S) -> Result<(), Fail> {
 fn without_entries<S: Store + Drop>(rt: &impl Abort, store: S) -> Result<(), Fail> {
     let mut service = Service::start(store);
     let held = Open::begin(&mut service, 3)?;
-    let held = closed(held.close(&mut service, 0))?;
+    let held = answered(held.close(&mut service, 0))?;
     let stamp = held.stamp();
-    let grant = granted(held.certify_all(&mut service))?;
-    spent(grant.give_up(&service))?;
+    let grant = answered(certified(held.certify_all(&mut service))?)?;
+    answered(grant.give_up(&service))?;
     assert!(rt; service.is_closed(3, stamp));
     assert_eq!(rt; service.commit(3), Ok(()));
     Ok(())
@@ -264,14 +266,14 @@ fn elsewhere<S: Store + Drop, T: Store + Drop>(
 ) -> Result<(), Fail> {
     let mut service = Service::start(here);
     let held = Open::begin(&mut service, 3)?;
-    let held = closed(held.close(&mut service, 0))?;
-    let grant = granted(held.certify_all(&mut service))?;
+    let held = answered(held.close(&mut service, 0))?;
+    let grant = answered(certified(held.certify_all(&mut service))?)?;
     let mut second = Service::start(there);
     let begun = second.begin(3);
     let written = second.write(3, 0, 7);
     let next = second.close(3, 0);
-    let (committing, grant) = unspent(grant.commit_all(&mut second))?;
-    spent(grant.abort_all(&mut second))?;
+    let (committing, grant) = refused(grant.commit_all(&mut second))?;
+    answered(grant.abort_all(&mut second))?;
     assert_eq!(rt; begun, Ok(()));
     assert_eq!(rt; written, Ok(()));
     assert_eq!(rt; next, Ok(19));

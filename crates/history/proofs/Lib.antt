@@ -19,3 +19,4 @@ mod Onward
 mod Latest
 mod Works
 mod Replays
+mod Sorting

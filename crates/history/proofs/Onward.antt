@@ -1,5 +1,5 @@
 -- A run goes on by one call.
-use Rattle.std.proofs.Common.{◌≡◌, ℕ, zero, suc, ◌+◌, ◌-◌, ◌<◌, ◌≤◌, min, List, [], ◌∷◌, ◌++◌, length, get_or, take, drop, set, Result, sym, refl, ap, ◌∙◌, subst, arith}
+use Rattle.std.proofs.Common.{◌≡◌, ℕ, zero, suc, ◌+◌, ◌<◌, min, List, [], ◌∷◌, ◌++◌, length, get_or, take, drop, set, Result, sym, refl, ap, ◌∙◌, subst, arith}
 use Rattle.std.proofs.lemmas.List.{take_more, take_more_set, drop-drop, drop-set-lt, length-take-le}
 use Rattle.store.specs.declared.Version.{Version}
 use Rattle.service.specs.declared.refusals.Refusal.{Refusal}
@@ -38,8 +38,3 @@ module _ (cs : List Call) (os : List (Result Answer Refusal)) (i : ℕ) (in-call
 
 pub rest_stays : {X : Type 0} (xs ys : List X) (i : ℕ) (x : X) → drop i xs ≡ drop i ys → drop (i + 1) (set xs i x) ≡ drop (i + 1) ys
 rest_stays xs ys i x h = drop-set-lt (i + 1) xs i x (omega arith) ∙ (sym (drop-drop 1 i xs) ∙ (ap (drop 1) h ∙ drop-drop 1 i ys))
-
-pub rest_past : {X : Type 0} (xs ys : List X) (n m : ℕ) → drop n xs ≡ drop n ys → n ≤ m → drop m xs ≡ drop m ys
-rest_past xs ys n m h l =
-    let e : n + (m - n) ≡ m = omega arith in
-    subst (λ (k : ℕ). drop k xs ≡ drop k ys) e (sym (drop-drop (m - n) n xs) ∙ (ap (drop (m - n)) h ∙ drop-drop (m - n) n ys))

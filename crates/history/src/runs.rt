@@ -4,7 +4,6 @@ ghost use Rattle.store.specs.declared.Version.{Version};
 ghost use Rattle.service.specs.Service.{Does};
 ghost use Rattle.service.specs.Services.{state_of};
 ghost use Rattle.history.specs.History.{History};
-ghost use Rattle.history.specs.Serial.{Law};
 ghost use Rattle.history.specs.Runs.{Run, Runs, onward};
 
 use service::{Answer, Call, Refusal, Service};
@@ -35,6 +34,7 @@ pub fn resume<S: Store>(service: &mut Service<S>, calls: &[Call], answers: &mut 
     ensures runs { (vs : List Version) (h : History) → Run vs h (state_of S.versions service.old) → Runs vs (onward calls.now answers.new h) (state_of S.versions service.new) }
 {
     let count = places(calls, answers);
+    // By index, since a proof knows nothing of what is written through an `iter_mut` that is zipped.
     for i in 0..count {
         make(service, calls[i], &mut answers[i]);
     }

@@ -1,65 +1,65 @@
 // Answers as they are printed.
 use history::Outcome;
 use service::{Answer, Look, Refusal};
-use std::alloc::{AllocError, Global};
-use std::fmt::Display;
+use std::fmt;
 use store::Fault;
 
-// The answer to a line that is none.
-pub const NOT_UNDERSTOOD: &str = "not understood";
-
-fn refused(heap: Global, number: u8, meaning: impl Display + Drop) -> Result<String, AllocError> {
-    format!(in heap; "{number} ({meaning})")
+// What a line of the input is answered.
+#[derive(Drop)]
+pub enum Reply {
+    Opened(Result<(), Fault>),
+    Called(Outcome),
+    Seen(Result<Look, Refusal>),
+    Served(Result<Vec<u8>, frame::Fault>),
+    NotUnderstood,
 }
 
-pub fn refusal(heap: Global, refusal: Refusal) -> Result<String, AllocError> {
-    refused(heap, u8::from(refusal), refusal)
-}
-
-pub fn opened(heap: Global, res: Result<(), Fault>) -> Result<String, AllocError> {
-    match res {
-        Ok(()) => String::from_str(heap, "0"),
-        Err(fault) => refused(heap, u8::from(fault), fault.meaning()),
-    }
-}
-
-pub fn fault(heap: Global, fault: frame::Fault) -> Result<String, AllocError> {
-    refused(heap, u8::from(fault), fault)
-}
-
-pub fn outcome(heap: Global, outcome: Outcome) -> Result<String, AllocError> {
-    match outcome {
-        Ok(Answer::Done) => String::from_str(heap, "0"),
-        Ok(Answer::Value(value)) => format!(in heap; "0 {value}"),
-        Ok(Answer::Stamp(stamp)) => format!(in heap; "0 {stamp}"),
-        Err(reason) => refusal(heap, reason),
-    }
-}
-
-pub fn look(heap: Global, res: Result<Look, Refusal>) -> Result<String, AllocError> {
-    match res {
-        Ok(look) => {
-            let value = look.version.value;
-            let twrite = look.version.twrite;
-            let tread = look.version.tread;
-            let reads = look.reads;
-            let writes = look.writes;
-            format!(in heap; "0 {value} {twrite} {tread} {reads} {writes}")
+impl fmt::Display for Reply {
+    fn fmt<W: fmt::Write>(&self, f: &mut fmt::Formatter<W>) -> fmt::Result {
+        match self {
+            Reply::Opened(Ok(())) | Reply::Called(Ok(Answer::Done)) => write!(f, "0"),
+            Reply::Called(Ok(Answer::Value(value))) => write!(f, "0 {value}"),
+            Reply::Called(Ok(Answer::Stamp(stamp))) => write!(f, "0 {stamp}"),
+            Reply::Seen(Ok(look)) => seen(f, look),
+            Reply::Served(Ok(bytes)) => Hexadecimal(bytes.as_slice()).fmt(f),
+            Reply::Called(Err(why)) | Reply::Seen(Err(why)) => refused(f, *why),
+            Reply::Opened(Err(why)) => refused(f, *why),
+            Reply::Served(Err(why)) => refused(f, *why),
+            Reply::NotUnderstood => write!(f, "not understood"),
         }
-        Err(reason) => refusal(heap, reason),
     }
 }
 
-const DIGITS: [char; 16] = [
-    '0', '1', '2', '3', '4', '5', '6', '7', '8', '9', 'A', 'B', 'C', 'D', 'E', 'F',
-];
+fn refused<W: fmt::Write, R: Copy + Into<u8> + fmt::Display>(
+    f: &mut fmt::Formatter<W>,
+    why: R,
+) -> fmt::Result {
+    let number: u8 = why.into();
+    write!(f, "{number} ({why})")
+}
 
-// Two hexadecimal digits for each byte.
-pub fn hexadecimal(heap: Global, bytes: &[u8]) -> Result<String, AllocError> {
-    let mut text = String::new(heap);
-    for b in bytes {
-        text.push(DIGITS[(*b >> 4) as usize])?;
-        text.push(DIGITS[(*b & 15) as usize])?;
+fn seen<W: fmt::Write>(f: &mut fmt::Formatter<W>, look: &Look) -> fmt::Result {
+    let Look {
+        version,
+        reads,
+        writes,
+    } = look;
+    write!(
+        f,
+        "0 {} {} {} {reads} {writes}",
+        version.value, version.twrite, version.tread
+    )
+}
+
+// Bytes as two hexadecimal digits each.
+#[derive(Clone, Copy)]
+pub struct Hexadecimal<'a>(pub &'a [u8]);
+
+impl fmt::Display for Hexadecimal<'_> {
+    fn fmt<W: fmt::Write>(&self, f: &mut fmt::Formatter<W>) -> fmt::Result {
+        for byte in self.0 {
+            write!(f, "{byte:02X}")?;
+        }
+        Ok(())
     }
-    Ok(text)
 }

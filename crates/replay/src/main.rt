@@ -10,7 +10,10 @@ fn main(rt: HostRuntime) -> anyhow::Result<()> {
     let heap = rt.alloc();
     let mut lines = Vec::new(heap);
     for line in rt.lines(heap) {
-        lines.push(line?)?;
+        let line = line?;
+        if words::is_asking(line.as_str()) {
+            lines.push(line)?;
+        }
     }
     openings::replay_all(&rt, lines.as_slice())
 }

@@ -1,262 +1,207 @@
 // A line of the input, and what it asks for.
 use service::Call;
 use std::alloc::{AllocError, Global};
+use std::num::{ParseIntError, TryFromIntError};
 use store::Item;
 
 // What a line asks for.
 #[derive(Drop)]
 pub enum Line {
-    // blank, or a comment
-    Nothing,
+    Opening(Opening),
+    Request(Request),
+}
+
+// A store to open.
+#[derive(Drop)]
+pub enum Opening {
     Table(Shape),
     Log(Shape),
     Pair(Shape, Shape),
+}
+
+// A request of the service over the open store.
+#[derive(Drop)]
+pub enum Request {
     Call(Call),
     Peek(Item),
     Frame(Vec<u8>),
-    NotUnderstood,
 }
 
-// A store to open: so many items in a buffer of so many bytes, zero but for those at its front.
+// So many items in a buffer.
 #[derive(Drop)]
 pub struct Shape {
     pub count: usize,
-    pub length: usize,
-    pub front: Vec<u8>,
+    pub buffer: Vec<u8>,
 }
 
 // The longest buffer that the program makes. No store takes more than 65,536 bytes; a longer buffer is there to be refused.
 const MOST_BYTES: usize = 1 << 20;
 
+// Why there is no line to be had from the words.
+#[derive(Drop)]
+enum Unread {
+    NotUnderstood,
+    Memory(AllocError),
+}
+
+impl From<AllocError> for Unread {
+    fn from(error: AllocError) -> Unread {
+        Unread::Memory(error)
+    }
+}
+
+impl From<ParseIntError> for Unread {
+    fn from(_error: ParseIntError) -> Unread {
+        Unread::NotUnderstood
+    }
+}
+
+impl From<TryFromIntError> for Unread {
+    fn from(_error: TryFromIntError) -> Unread {
+        Unread::NotUnderstood
+    }
+}
+
 // A decimal number; a sign is none.
-fn number(word: &str) -> Option<u64> {
+fn number(word: &str) -> Result<u64, Unread> {
     if word.starts_with('+') {
-        return None;
+        return Err(Unread::NotUnderstood);
     }
-    word.parse::<u64>().ok()
+    Ok(word.parse::<u64>()?)
 }
 
-fn tool(n: u64) -> Option<u8> {
-    u8::try_from(n).ok()
-}
-
-fn item(n: u64) -> Option<Item> {
-    Item::try_from(n).ok()
-}
-
-// The call that a line's first word and its numbers spell.
-fn call(name: &str, numbers: &[u64]) -> Option<Call> {
-    match name {
-        "begin" => {
-            let [a] = numbers else { return None };
-            Some(Call::Begin { tool: tool(*a)? })
-        }
-        "read" => {
-            let [a, b] = numbers else { return None };
-            Some(Call::Read {
-                tool: tool(*a)?,
-                item: item(*b)?,
-            })
-        }
-        "write" => {
-            let [a, b, c] = numbers else { return None };
-            Some(Call::Write {
-                tool: tool(*a)?,
-                item: item(*b)?,
-                value: u32::try_from(*c).ok()?,
-            })
-        }
-        "close" => {
-            let [a, b] = numbers else { return None };
-            Some(Call::Close {
-                tool: tool(*a)?,
-                tick: *b,
-            })
-        }
-        "certify" => {
-            let [a, b] = numbers else { return None };
-            Some(Call::Certify {
-                tool: tool(*a)?,
-                item: item(*b)?,
-            })
-        }
-        "commit" => {
-            let [a] = numbers else { return None };
-            Some(Call::Commit { tool: tool(*a)? })
-        }
-        "abort" => {
-            let [a] = numbers else { return None };
-            Some(Call::Abort { tool: tool(*a)? })
-        }
-        "settle" => {
-            let [a, b] = numbers else { return None };
-            Some(Call::Settle {
-                tool: tool(*a)?,
-                item: item(*b)?,
-            })
-        }
-        _ => None,
-    }
-}
-
-fn peeked(numbers: &[u64]) -> Option<Item> {
-    let [a] = numbers else { return None };
-    item(*a)
-}
-
-fn digit(c: u8) -> Option<u8> {
+fn digit(c: u8) -> Result<u8, Unread> {
     match c {
-        b'0'..=b'9' => Some(c - b'0'),
-        b'a'..=b'f' => Some(c - b'a' + 10),
-        b'A'..=b'F' => Some(c - b'A' + 10),
-        _ => None,
+        b'0'..=b'9' => Ok(c - b'0'),
+        b'a'..=b'f' => Ok(c - b'a' + 10),
+        b'A'..=b'F' => Ok(c - b'A' + 10),
+        _ => Err(Unread::NotUnderstood),
     }
 }
 
-fn joined(high: u8, low: u8) -> u8 {
-    (high & 15) << 4 | low & 15
+fn byte(pair: &[u8; 2]) -> Result<u8, Unread> {
+    let [high, low] = pair;
+    Ok((digit(*high)? & 15) << 4 | digit(*low)? & 15)
 }
 
 // Bytes as pairs of hexadecimal digits.
-fn bytes(heap: Global, word: &str) -> Result<Option<Vec<u8>>, AllocError> {
-    let mut all = Vec::new(heap);
-    let mut high = None;
-    for c in word.bytes() {
-        let Some(d) = digit(c) else { return Ok(None) };
-        match high {
-            None => high = Some(d),
-            Some(h) => {
-                all.push(joined(h, d))?;
-                high = None;
-            }
-        }
+fn bytes(heap: Global, word: &str) -> Result<Vec<u8>, Unread> {
+    let (pairs, rest) = word.as_bytes().as_chunks::<2>();
+    if !rest.is_empty() {
+        return Err(Unread::NotUnderstood);
     }
-    if high.is_some() {
-        return Ok(None);
-    }
-    Ok(Some(all))
+    pairs.iter().map(byte).try_collect(heap)
 }
 
-// The words behind the first, as numbers.
-fn numbers(heap: Global, words: &[&str]) -> Result<Option<Vec<u64>>, AllocError> {
-    let mut all = Vec::new(heap);
-    for word in words {
-        match number(word) {
-            Some(n) => all.push(n)?,
-            None => return Ok(None),
-        }
-    }
-    Ok(Some(all))
+// The request that a word and its numbers spell.
+fn spelled(name: &str, numbers: &[u64]) -> Result<Request, Unread> {
+    Ok(Request::Call(match (name, numbers) {
+        ("begin", [tool]) => Call::Begin {
+            tool: u8::try_from(*tool)?,
+        },
+        ("read", [tool, item]) => Call::Read {
+            tool: u8::try_from(*tool)?,
+            item: Item::try_from(*item)?,
+        },
+        ("write", [tool, item, value]) => Call::Write {
+            tool: u8::try_from(*tool)?,
+            item: Item::try_from(*item)?,
+            value: u32::try_from(*value)?,
+        },
+        ("close", [tool, tick]) => Call::Close {
+            tool: u8::try_from(*tool)?,
+            tick: *tick,
+        },
+        ("certify", [tool, item]) => Call::Certify {
+            tool: u8::try_from(*tool)?,
+            item: Item::try_from(*item)?,
+        },
+        ("commit", [tool]) => Call::Commit {
+            tool: u8::try_from(*tool)?,
+        },
+        ("abort", [tool]) => Call::Abort {
+            tool: u8::try_from(*tool)?,
+        },
+        ("settle", [tool, item]) => Call::Settle {
+            tool: u8::try_from(*tool)?,
+            item: Item::try_from(*item)?,
+        },
+        ("peek", [item]) => return Ok(Request::Peek(Item::try_from(*item)?)),
+        _ => return Err(Unread::NotUnderstood),
+    }))
 }
 
-// A store of so many items and bytes, if the program makes such a buffer.
-fn shaped(count: u64, length: u64, front: Vec<u8>) -> Option<Shape> {
-    let length = length as usize;
+// A store of so many items in so many bytes, zero but for those at its front, if the program makes such a buffer.
+fn shaped(count: u64, length: u64, front: Vec<u8>) -> Result<Shape, Unread> {
+    let count = usize::try_from(count)?;
+    let length = usize::try_from(length)?;
     if front.len() > length || length > MOST_BYTES {
-        return None;
+        return Err(Unread::NotUnderstood);
     }
-    Some(Shape {
-        count: count as usize,
-        length,
-        front,
-    })
+    let mut buffer = front;
+    buffer.resize(length, 0)?;
+    Ok(Shape { count, buffer })
 }
 
-// `COUNT LENGTH [BYTES]`, where the bytes fit into the length.
-fn shape_of(heap: Global, words: &[&str]) -> Result<Option<Shape>, AllocError> {
-    let (sizes, front) = match words {
-        [_, _] => (words, Some(Vec::new(heap))),
-        [_, _, last] => (&words[0..2], bytes(heap, last)?),
-        _ => return Ok(None),
-    };
-    let Some(front) = front else { return Ok(None) };
-    let Some(sizes) = numbers(heap, sizes)? else {
-        return Ok(None)
-    };
-    let [count, length] = sizes.as_slice() else {
-        return Ok(None)
-    };
-    Ok(shaped(*count, *length, front))
+// `COUNT LENGTH [BYTES]`
+fn single(heap: Global, words: &[&str]) -> Result<Shape, Unread> {
+    match words {
+        [count, length] => shaped(number(count)?, number(length)?, Vec::new(heap)),
+        [count, length, front] => shaped(number(count)?, number(length)?, bytes(heap, front)?),
+        _ => Err(Unread::NotUnderstood),
+    }
 }
 
 // `COUNT LENGTH COUNT LENGTH`
-fn shapes_of(heap: Global, words: &[&str]) -> Result<Option<(Shape, Shape)>, AllocError> {
-    let Some(sizes) = numbers(heap, words)? else {
-        return Ok(None)
+fn pair(heap: Global, words: &[&str]) -> Result<Opening, Unread> {
+    let [count, length, other_count, other_length] = words else {
+        return Err(Unread::NotUnderstood)
     };
-    let [count, length, other_count, other_length] = sizes.as_slice() else {
-        return Ok(None)
-    };
-    let Some(first) = shaped(*count, *length, Vec::new(heap)) else {
-        return Ok(None)
-    };
-    let Some(second) = shaped(*other_count, *other_length, Vec::new(heap)) else {
-        return Ok(None)
-    };
-    Ok(Some((first, second)))
-}
-
-// A line that opens a store.
-fn opening(heap: Global, name: &str, words: &[&str]) -> Result<Line, AllocError> {
-    if name == "pair" {
-        return Ok(match shapes_of(heap, words)? {
-            Some((first, second)) => Line::Pair(first, second),
-            None => Line::NotUnderstood,
-        });
-    }
-    let Some(shape) = shape_of(heap, words)? else {
-        return Ok(Line::NotUnderstood)
-    };
-    if name == "table" {
-        return Ok(Line::Table(shape));
-    }
-    Ok(Line::Log(shape))
+    let first = shaped(number(count)?, number(length)?, Vec::new(heap))?;
+    let second = shaped(number(other_count)?, number(other_length)?, Vec::new(heap))?;
+    Ok(Opening::Pair(first, second))
 }
 
 // `frame BYTES`; without bytes it is the empty frame.
-fn framed(heap: Global, words: &[&str]) -> Result<Line, AllocError> {
-    let frame = match words {
-        [] => Some(Vec::new(heap)),
-        [word] => bytes(heap, word)?,
-        _ => None,
-    };
-    Ok(match frame {
-        Some(frame) => Line::Frame(frame),
-        None => Line::NotUnderstood,
-    })
+fn frame(heap: Global, words: &[&str]) -> Result<Vec<u8>, Unread> {
+    match words {
+        [] => Ok(Vec::new(heap)),
+        [word] => bytes(heap, word),
+        _ => Err(Unread::NotUnderstood),
+    }
 }
 
-// What a line asks for.
-pub fn parse(heap: Global, text: &str) -> Result<Line, AllocError> {
-    let mut all = Vec::new(heap);
-    for word in text.split(' ') {
-        if !word.is_empty() {
-            all.push(word)?;
+fn understood(heap: Global, text: &str) -> Result<Line, Unread> {
+    let words: Vec<&str> = text
+        .split(' ')
+        .filter(|word| !word.is_empty())
+        .collect(heap)?;
+    let Some((name, rest)) = words.as_slice().split_first() else {
+        return Err(Unread::NotUnderstood)
+    };
+    match *name {
+        "table" => Ok(Line::Opening(Opening::Table(single(heap, rest)?))),
+        "log" => Ok(Line::Opening(Opening::Log(single(heap, rest)?))),
+        "pair" => Ok(Line::Opening(pair(heap, rest)?)),
+        "frame" => Ok(Line::Request(Request::Frame(frame(heap, rest)?))),
+        _ => {
+            let numbers: Vec<u64> = rest.iter().map(|word| number(word)).try_collect(heap)?;
+            Ok(Line::Request(spelled(name, numbers.as_slice())?))
         }
     }
-    let Some((name, rest)) = all.as_slice().split_first() else {
-        return Ok(Line::Nothing)
-    };
-    if name.starts_with('#') {
-        return Ok(Line::Nothing);
+}
+
+// Whether a line is there to be read: it is neither blank nor a comment.
+pub fn is_asking(text: &str) -> bool {
+    let text = text.trim_start_matches(' ');
+    !text.is_empty() && !text.starts_with('#')
+}
+
+// What a line asks for, if it is understood.
+pub fn parse(heap: Global, text: &str) -> Result<Option<Line>, AllocError> {
+    match understood(heap, text) {
+        Ok(line) => Ok(Some(line)),
+        Err(Unread::NotUnderstood) => Ok(None),
+        Err(Unread::Memory(error)) => Err(error),
     }
-    if *name == "table" || *name == "log" || *name == "pair" {
-        return opening(heap, name, rest);
-    }
-    if *name == "frame" {
-        return framed(heap, rest);
-    }
-    let Some(numbers) = numbers(heap, rest)? else {
-        return Ok(Line::NotUnderstood)
-    };
-    if *name == "peek" {
-        return Ok(match peeked(numbers.as_slice()) {
-            Some(item) => Line::Peek(item),
-            None => Line::NotUnderstood,
-        });
-    }
-    Ok(match call(name, numbers.as_slice()) {
-        Some(call) => Line::Call(call),
-        None => Line::NotUnderstood,
-    })
 }

@@ -1,5 +1,5 @@
 -- The same, of a service and of operations on whole transactions.
-use Rattle.std.proofs.Common.{◌≡◌, ℕ, ◌<◌, Bool, true, false, cond, List, [], ◌∷◌, ◌++◌, length, Some, None, Ok, Err, Option, Result, sym, refl, ap, ◌∙◌, subst, arith}
+use Rattle.std.proofs.Common.{◌≡◌, ℕ, ◌<◌, Bool, true, false, cond, List, [], ◌∷◌, ◌++◌, length, Ok, Err, Result, sym, refl, ap, ◌∙◌, subst, arith}
 use Rattle.std.proofs.lemmas.List.{append-nil}
 use mathlib.Core.Logic.{∥∥₁_elim}
 use Rattle.std.proofs.Math.Nat.{ℕ_set}
@@ -13,7 +13,7 @@ use Rattle.service.specs.declared.calls.Call.{Call}
 use Rattle.service.specs.declared.calls.Call.TheVariants.{Begin, Read, Write, Close, Commit, Abort}
 use Rattle.service.specs.declared.services.Service.{Service}
 use Rattle.service.specs.Refusals.{rejects}
-use Rattle.service.specs.Service.{Seat, State, seat, tool_of, rules, step, Does}
+use Rattle.service.specs.Service.{State, seat, tool_of, rules, step, Does}
 use Rattle.service.specs.Services.{state_of, Makes}
 use Rattle.service.specs.Views.{bare_items}
 use Rattle.service.proofs.Rules.{mild_refusal}
@@ -27,10 +27,6 @@ use Rattle.held.specs.Held.{only_if, or_back, is_rejection, granted, certificati
 use Rattle.held.proofs.Made.{made_after}
 use Rattle.tuner.specs.Hands.{IsOpen, IsClosed}
 use Rattle.tuner.proofs.Turns.{was_refused, elsewhere, open_refused, known, open_accepted, close_accepted, certifications_keep}
-
--- a seat that stays as it was
-pub open_still : (s s' : State) (t : ℕ) → seat s' t ≡ seat s t → IsOpen s t → IsOpen s' t
-open_still s s' t e o = record { known = o.known; open_then = ap (λ (x : Seat). x.phase) e ∙ o.open_then }
 
 no_back : {B : Type 0} (p : Refusal × B) → ◌≡◌ {A = Result (Unit {0}) (Refusal × B)} (Err p) (Ok tt) → ⊥
 no_back p q = let z : ◌≡◌ {A = ℕ} 0 1 = cc in omega arith
@@ -104,11 +100,11 @@ module _ {S : Type 0} (versions : S → List Version) where
     pub certified_keeps : (g : Grant) → Performs versions x (certifies_all h) (Ok g) y → IsClosed (state_of versions y) g.tool g.stamp
     certified_keeps g m = go (first_refusal (state_of versions x) (certifications h.tool (state_of versions x))) refl (answered (Ok g) m)
       where
-        go : (o : Option Refusal) → first_refusal (state_of versions x) (certifications h.tool (state_of versions x)) ≡ o → ◌≡◌ {A = Result Grant Uncertified} (Ok g) (granted h o) → IsClosed (state_of versions y) g.tool g.stamp
-        go None f q =
+        go : (o : Result (Unit {0}) Refusal) → first_refusal (state_of versions x) (certifications h.tool (state_of versions x)) ≡ o → ◌≡◌ {A = Result Grant Uncertified} (Ok g) (granted h o) → IsClosed (state_of versions y) g.tool g.stamp
+        go (Ok u) f q =
             let e : g ≡ record { tool = h.tool; stamp = h.stamp } = cc in
             subst (λ (v : Grant). IsClosed (state_of versions y) v.tool v.stamp) (sym e) (still (Ok g) m (ap is_rejection f))
-        go (Some r) f q = let z : ◌≡◌ {A = ℕ} 0 1 = cc in absurd (omega arith)
+        go (Err r) f q = let z : ◌≡◌ {A = ℕ} 0 1 = cc in absurd (omega arith)
 
     pub refused_keeps : (r : Refusal) (c : Closed) → Performs versions x (certifies_all h) (Err (Refused r c)) y → IsClosed (state_of versions y) c.tool c.stamp
     refused_keeps r c m = go (first_refusal (state_of versions x) (certifications h.tool (state_of versions x))) refl (answered (Err (Refused r c)) m)
@@ -117,8 +113,8 @@ module _ {S : Type 0} (versions : S → List Version) where
         back n true f q = let z : ◌≡◌ {A = ℕ} 0 1 = cc in absurd (omega arith)
         back n false f q = (f, cc)
 
-        go : (o : Option Refusal) → first_refusal (state_of versions x) (certifications h.tool (state_of versions x)) ≡ o → ◌≡◌ {A = Result Grant Uncertified} (Err (Refused r c)) (granted h o) → IsClosed (state_of versions y) c.tool c.stamp
-        go None f q = let z : ◌≡◌ {A = ℕ} 0 1 = cc in absurd (omega arith)
-        go (Some n) f q =
+        go : (o : Result (Unit {0}) Refusal) → first_refusal (state_of versions x) (certifications h.tool (state_of versions x)) ≡ o → ◌≡◌ {A = Result Grant Uncertified} (Err (Refused r c)) (granted h o) → IsClosed (state_of versions y) c.tool c.stamp
+        go (Ok u) f q = let z : ◌≡◌ {A = ℕ} 0 1 = cc in absurd (omega arith)
+        go (Err n) f q =
             let e = back n (rejects n) refl q in
             subst (λ (v : Closed). IsClosed (state_of versions y) v.tool v.stamp) (sym e.1) (still (Err (Refused r c)) m (ap is_rejection f ∙ e.0))

@@ -13,7 +13,7 @@ use Rattle.service.specs.Service.{Seat, State, fresh, seat, is, tool_of, counter
 use Rattle.service.proofs.Phases.{clash}
 use Rattle.service.proofs.Rules.{rejected, clear, tool_below}
 use Rattle.history.proofs.Laws.{refusals_keep}
-use Rattle.held.specs.Calls.{after, if_accepted, up_to_refusal, refusal_or, first_refusal}
+use Rattle.held.specs.Calls.{after, without, if_accepted, up_to_refusal, refusal_or, first_refusal}
 use Rattle.held.specs.Held.{is_rejection}
 use Rattle.tuner.specs.Hands.{IsOpen, IsClosed}
 
@@ -92,7 +92,7 @@ close_accepted s s' t k st d l =
     }
 
 -- a certification that rejects nothing leaves the transaction closed
-pub certify_keeps : (s : State) (t i st : ℕ) → t < length s.seats → IsClosed s t st → (o : Option Refusal) → is_rejection o ≡ false → IsClosed (outcome s (seat s t) (Certify t i) o).1 t st
+pub certify_keeps : (s : State) (t i st : ℕ) → t < length s.seats → IsClosed s t st → (o : Option Refusal) → is_rejection (without (outcome s (seat s t) (Certify t i) o).0) ≡ false → IsClosed (outcome s (seat s t) (Certify t i) o).1 t st
 certify_keeps s t i st l k None n =
     let z = get_or-set_same s.seats t (next_seat s (seat s t) (Certify t i)) (fresh 0) l in
     record { known = k.known; closed_then = ap (λ (x : Seat). is x.phase Closed && eqb x.stamp st) z ∙ k.closed_then }

@@ -1,7 +1,6 @@
 -- That what is in hand is still its tool's: then giving it up is not refused.
 use Rattle.std.specs.Prelude.{◌≡◌, ℕ, ◌<◌, true, List, Ok}
 use Rattle.store.specs.declared.Version.{Version}
-use Rattle.service.specs.declared.refusals.Refusal.{Refusal}
 use Rattle.service.specs.declared.calls.Call.TheVariants.{Abort}
 use Rattle.service.specs.declared.calls.Answer.TheVariants.{Done}
 use Rattle.service.specs.declared.services.Service.{Service}
@@ -12,7 +11,8 @@ use Rattle.service.specs.declared.tools.Phase.TheVariants.{Open, Closed}
 use Rattle.service.specs.Service.{State, seat}
 use Rattle.service.specs.Views.{is_under}
 use Rattle.tuner.specs.declared.Stop.{Stop}
-use Rattle.tuner.specs.declared.Stop.TheVariants.{Refused, Open as OpenInHand, Closed as ClosedInHand, Granted}
+use Rattle.tuner.specs.declared.Hand.{Hand}
+use Rattle.tuner.specs.declared.Hand.TheVariants.{Empty, Open as OpenInHand, Closed as ClosedInHand, Granted}
 
 -- a tool that there is, with an open transaction
 pub record IsOpen (s : State) (t : ℕ) : Type 0 where
@@ -24,23 +24,24 @@ pub record IsClosed (s : State) (t st : ℕ) : Type 0 where
   pub known : t < 16
   pub closed_then : is_under Closed s t st ≡ true
 
+-- what is in hand
+abbrev pub Holds : State → Hand → Type 0
+Holds s Empty = Unit
+Holds s (OpenInHand held) = IsOpen s held.tool
+Holds s (ClosedInHand held) = IsClosed s held.tool held.stamp
+Holds s (Granted held) = IsClosed s held.tool held.stamp
+
 -- what is in hand where the tuner cannot go on
 abbrev pub Stands : State → Stop → Type 0
-Stands s (Refused r) = Unit
-Stands s (OpenInHand r held) = IsOpen s held.tool
-Stands s (ClosedInHand r held) = IsClosed s held.tool held.stamp
-Stands s (Granted r held) = IsClosed s held.tool held.stamp
+Stands s stop = Holds s stop.hand
 
--- why the tuner could not go on
-abbrev pub why : Stop → Refusal
-why (Refused r) = r
-why (OpenInHand r held) = r
-why (ClosedInHand r held) = r
-why (Granted r held) = r
+-- x lets go of what is in hand, and is y afterwards; with nothing in hand it stays
+abbrev pub LetGo : {S : Type 0} → (S → List Version) → Service S → Hand → Service S → Type 0
+LetGo versions x Empty y = y ≡ x
+LetGo versions x (OpenInHand held) y = Makes versions x (Abort held.tool) (Ok Done) y
+LetGo versions x (ClosedInHand held) y = Performs versions x (aborts_closed held) (Ok tt) y
+LetGo versions x (Granted held) y = Performs versions x (aborts_all held) (Ok tt) y
 
--- x gives up what is in hand, and is y afterwards; with nothing in hand it stays
+-- the same where the tuner cannot go on
 abbrev pub GivenUp : {S : Type 0} → (S → List Version) → Service S → Stop → Service S → Type 0
-GivenUp versions x (Refused r) y = y ≡ x
-GivenUp versions x (OpenInHand r held) y = Makes versions x (Abort held.tool) (Ok Done) y
-GivenUp versions x (ClosedInHand r held) y = Performs versions x (aborts_closed held) (Ok tt) y
-GivenUp versions x (Granted r held) y = Performs versions x (aborts_all held) (Ok tt) y
+GivenUp versions x stop y = LetGo versions x stop.hand y

@@ -3,14 +3,10 @@
 // a rejection it begins again. An operator's tool changes a limit meanwhile, by single calls, so that one rejection happens.
 ghost use Rattle.std.specs.Prelude.{◌≡◌, ℕ, ◌≢◌, IfErr};
 ghost use Rattle.service.specs.Service.{seat};
-ghost use Rattle.service.specs.Services.{state_of, Makes};
-ghost use Rattle.service.specs.declared.calls.Call.TheVariants.{Abort};
-ghost use Rattle.service.specs.declared.calls.Answer.TheVariants.{Done};
-ghost use Rattle.held.specs.Calls.{Performs};
-ghost use Rattle.held.specs.Held.{aborts_closed, aborts_all};
+ghost use Rattle.service.specs.Services.{state_of};
 ghost use Rattle.tuner.specs.declared.Ended.TheVariants.{Refused as EndedRefused, Printing};
-ghost use Rattle.tuner.specs.declared.Stop.TheVariants.{Refused};
-ghost use Rattle.tuner.specs.Hands.{IsOpen, IsClosed, Stands, why, GivenUp};
+ghost use Rattle.tuner.specs.declared.Hand.TheVariants.{Empty, Open as OpenInHand, Closed as ClosedInHand, Granted};
+ghost use Rattle.tuner.specs.Hands.{IsOpen, Stands, GivenUp};
 
 use held::{Closed, Grant, Open, Uncertified};
 use service::{Refusal, Service};
@@ -28,19 +24,53 @@ const LIMIT: Item = 1;
 
 const ATTEMPTS: u64 = 3;
 
-// What is left in hand where the tuner cannot go on. None of it may be let fall, so it is handed on and given up.
-enum Stop {
-    Refused(Refusal),
-    Open(Refusal, Open),
-    Closed(Refusal, Closed),
-    Granted(Refusal, Grant),
+// What the tuner has in hand. None of it may be let fall, so it is handed on and given up.
+enum Hand {
+    Empty,
+    Open(Open),
+    Closed(Closed),
+    Granted(Grant),
+}
+
+// Why the tuner cannot go on, and what it has in hand then.
+struct Stop {
+    refusal: Refusal,
+    hand: Hand,
 }
 
 impl From<Refusal> for Stop {
-    ghost from_gives = { λ refusal stop. stop ≡ Refused refusal };
+    ghost from_gives = { λ refusal stop. stop ≡ record { refusal = refusal; hand = Empty } };
 
     fn from(refusal: Refusal) -> Stop {
-        Stop::Refused(refusal)
+        let hand = Hand::Empty;
+        Stop { refusal, hand }
+    }
+}
+
+impl From<(Refusal, Open)> for Stop {
+    ghost from_gives = { λ back stop. stop ≡ record { refusal = back.0; hand = OpenInHand back.1 } };
+
+    fn from((refusal, held): (Refusal, Open)) -> Stop {
+        let hand = Hand::Open(held);
+        Stop { refusal, hand }
+    }
+}
+
+impl From<(Refusal, Closed)> for Stop {
+    ghost from_gives = { λ back stop. stop ≡ record { refusal = back.0; hand = ClosedInHand back.1 } };
+
+    fn from((refusal, held): (Refusal, Closed)) -> Stop {
+        let hand = Hand::Closed(held);
+        Stop { refusal, hand }
+    }
+}
+
+impl From<(Refusal, Grant)> for Stop {
+    ghost from_gives = { λ back stop. stop ≡ record { refusal = back.0; hand = Granted back.1 } };
+
+    fn from((refusal, held): (Refusal, Grant)) -> Stop {
+        let hand = Hand::Granted(held);
+        Stop { refusal, hand }
     }
 }
 
@@ -67,58 +97,20 @@ impl From<io::Error> for Ended {
     }
 }
 
-// Giving up what is in hand is never refused while its transaction is the tool's.
-fn give_up_open<S: Store>(held: Open, service: &mut Service<S>)
-    requires { IsOpen (state_of S.versions service.old) held.tool }
-    ensures { Makes S.versions service.old (Abort held.tool) (Ok Done) service.new }
-{
-    match held.abort(service) {
-        Ok(()) => {}
-        Err(_) => unreachable!(),
-    }
-}
-
-fn give_up_closed<S: Store>(held: Closed, service: &mut Service<S>)
-    requires { IsClosed (state_of S.versions service.old) held.tool held.stamp }
-    ensures { Performs S.versions service.old (aborts_closed held) (Ok tt) service.new }
-{
-    match held.abort(service) {
-        Ok(()) => {}
-        Err(_) => unreachable!(),
-    }
-}
-
-fn give_up_grant<S: Store>(held: Grant, service: &mut Service<S>)
-    requires { IsClosed (state_of S.versions service.old) held.tool held.stamp }
-    ensures { Performs S.versions service.old (aborts_all held) (Ok tt) service.new }
-{
-    match held.abort_all(service) {
-        Ok(()) => {}
-        Err(_) => unreachable!(),
-    }
-}
-
-// Gives up what is in hand, and says why the tuner could not go on.
+// Gives up what is in hand, which is never refused while it is its tool's, and says why the tuner could not go on.
 fn give_up<S: Store>(stop: Stop, service: &mut Service<S>) -> Refusal
     requires { Stands (state_of S.versions service.old) stop }
-    ensures why { result ≡ why stop }
+    ensures why { result ≡ stop.refusal }
     ensures given_up { GivenUp S.versions service.old stop service.new }
 {
-    match stop {
-        Stop::Refused(refusal) => refusal,
-        Stop::Open(refusal, held) => {
-            give_up_open(held, service);
-            refusal
-        }
-        Stop::Closed(refusal, held) => {
-            give_up_closed(held, service);
-            refusal
-        }
-        Stop::Granted(refusal, held) => {
-            give_up_grant(held, service);
-            refusal
-        }
+    let Stop { refusal, hand } = stop;
+    match hand {
+        Hand::Empty => {}
+        Hand::Open(held) => held.abort(service).unwrap(),
+        Hand::Closed(held) => held.abort(service).unwrap(),
+        Hand::Granted(held) => held.abort_all(service).unwrap(),
     }
+    refusal
 }
 
 // The operator lowers the limit, one call after the other.
@@ -154,48 +146,54 @@ fn adjust<S: Store>(
     Ok(next)
 }
 
+// The transaction's calls. In the first attempt the operator comes between them and the certification.
+fn work<S: Store>(
+    held: &Open,
+    service: &mut Service<S>,
+    number: u64,
+    measured: Value,
+) -> Result<Value, Refusal>
+    ensures { held.now.tool ≢ 7 → IsOpen (state_of S.versions service.old) held.now.tool → IsOpen (state_of S.versions service.new) held.now.tool }
+{
+    let next = adjust(held, service, measured)?;
+    if number == 1 {
+        lower_limit(service, 40)?;
+    }
+    Ok(next)
+}
+
 // Closes the transaction, certifies it and commits it. A rejection is no stop: the next attempt may do better.
 fn finish<S: Store>(
     held: Open,
     service: &mut Service<S>,
     tick: u64,
-) -> Result<Option<Refusal>, Stop>
+) -> Result<Result<(), Refusal>, Stop>
     ensures { IsOpen (state_of S.versions service.old) held.tool → IfErr result (λ stop. Stands (state_of S.versions service.new) stop) }
 {
-    let closed = match held.close(service, tick) {
-        Ok(closed) => closed,
-        Err((refusal, held)) => return Err(Stop::Open(refusal, held)),
-    };
-    let grant = match closed.certify_all(service) {
-        Ok(grant) => grant,
-        Err(Uncertified::Rejected(refusal)) => return Ok(Some(refusal)),
-        Err(Uncertified::Refused(refusal, closed)) => return Err(Stop::Closed(refusal, closed)),
-    };
-    match grant.commit_all(service) {
-        Ok(()) => Ok(None),
-        Err((refusal, grant)) => Err(Stop::Granted(refusal, grant)),
+    let closed = held.close(service, tick)?;
+    match closed.certify_all(service) {
+        Ok(grant) => {
+            grant.commit_all(service)?;
+            Ok(Ok(()))
+        }
+        Err(Uncertified::Rejected(refusal)) => Ok(Err(refusal)),
+        Err(Uncertified::Refused(refusal, closed)) => Err(Stop::from((refusal, closed))),
     }
 }
 
-// One attempt. In the first the operator comes between the reads and the certification.
+// One attempt: the gain that it wrote, and whether it was committed or rejected.
 fn attempt<S: Store>(
     service: &mut Service<S>,
     number: u64,
     measured: Value,
-) -> Result<(Value, Option<Refusal>), Stop>
+) -> Result<(Value, Result<(), Refusal>), Stop>
     ensures { IfErr result (λ stop. Stands (state_of S.versions service.new) stop) }
 {
     let held = Open::begin(service, TUNER)?;
-    let next = match adjust(&held, service, measured) {
-        Ok(next) => next,
-        Err(refusal) => return Err(Stop::Open(refusal, held)),
-    };
-    if number == 1 {
-        if let Err(refusal) = lower_limit(service, 40) {
-            return Err(Stop::Open(refusal, held));
-        }
+    match work(&held, service, number, measured) {
+        Ok(next) => Ok((next, finish(held, service, number)?)),
+        Err(refusal) => Err(Stop::from((refusal, held))),
     }
-    Ok((next, finish(held, service, number)?))
 }
 
 // Attempts until one is committed, at most `ATTEMPTS` of them.
@@ -205,16 +203,16 @@ fn tune<S: Store>(
     measured: Value,
 ) -> Result<(), Ended> {
     for number in 1..=ATTEMPTS {
-        let (next, rejection) = match attempt(service, number, measured) {
+        let (next, outcome) = match attempt(service, number, measured) {
             Ok(attempted) => attempted,
             Err(stop) => return Err(Ended::Refused(give_up(stop, service))),
         };
-        match rejection {
-            None => {
+        match outcome {
+            Ok(()) => {
                 println!(rt; "attempt {number}: gain {next} committed")?;
                 return Ok(());
             }
-            Some(refusal) => {
+            Err(refusal) => {
                 let rule = u8::from(refusal);
                 println!(rt; "attempt {number}: gain {next} rejected by rule {rule}, begin again")?;
             }

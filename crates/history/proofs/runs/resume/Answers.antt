@@ -1,13 +1,10 @@
-use Rattle.std.proofs.Common.{◌≡◌, ℕ, drop, refl, subst, arith}
+use Rattle.std.proofs.Common.{subst, arith}
 use Rattle.service.specs.Services.{state_of}
 use Rattle.history.specs.Runs.{Run}
 use Rattle.history.specs.History.{History}
 use Rattle.history.proofs.Onward.{one_more, rest_stays, onward_short}
 use Rattle.history.proofs.Whole.{serial_order}
 use Rattle.history.proofs.runs.resume.Goals as goal
-
-pub loop-i-init : goal.loop-i-init
-loop-i-init g c = (refl, λ vs h r. r)
 
 pub loop-i-preserved : goal.loop-i-preserved
 loop-i-preserved g c = (
@@ -17,15 +14,9 @@ loop-i-preserved g c = (
       (c.loop-i.invariant.1 vs h r) c.make.ensures,
 )
 
-pub returns : goal.returns
-returns g c =
-    let i : c.loop-i.i ≡ c.places-count.result = omega arith in
-    record {
-      count = c.places-count.ensures;
-      rest = subst (λ (n : ℕ). drop n c.loop-i.answers ≡ drop n c.args.answers.now) i c.loop-i.invariant.0;
-      runs = λ vs h r.
-          let run = subst (λ (x : History). Run vs x (state_of g.S.Store.versions c.loop-i.service))
-          (onward_short c.args.calls.now c.loop-i.answers c.loop-i.i h (let n = c.places-count.ensures in let k = c.loop-i.auto.answers in omega arith)) (c.loop-i.invariant.1 vs h r)
-          in
-          record { run = run; law = serial_order vs _ _ run };
-    }
+pub returns-clause-runs : goal.returns-clause-runs
+returns-clause-runs g c = λ vs h r.
+    let run = subst (λ (x : History). Run vs x (state_of g.S.Store.versions c.loop-i.service))
+    (onward_short c.args.calls.now c.loop-i.answers c.loop-i.i h (let n = c.places-count.ensures in let k = c.loop-i.auto.answers in omega arith)) (c.loop-i.invariant.1 vs h r)
+    in
+    record { run = run; law = serial_order vs _ _ run }

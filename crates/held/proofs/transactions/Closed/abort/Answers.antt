@@ -1,4 +1,4 @@
-use Rattle.std.proofs.Common.{Err, sym, refl}
+use Rattle.std.proofs.Common.{Err, sym, rules}
 use Rattle.service.specs.declared.refusals.Refusal.TheVariants.{WrongState}
 use Rattle.service.specs.declared.calls.Call.TheVariants.{Abort}
 use Rattle.held.specs.Calls.{without}
@@ -10,12 +10,7 @@ pub returns-then-not-is_abortable : goal.returns-then-not-is_abortable
 returns-then-not-is_abortable g c =
     held_off g.S.Store.versions c.args.service.now (λ s. is_abortable s c.args.self.tool c.args.self.stamp) (Err (WrongState, c.args.self)) (only (Abort c.args.self.tool) (λ a. or_back c.args.self (without a))) (sym c.if-not-is_abortable.ensures)
 
-pub returns-in-Ok : goal.returns-in-Ok
-returns-in-Ok g c =
+pub returns : goal.returns
+returns g c =
     single_through g.S.Store.versions c.args.service.now c.abort.new.self (λ s. is_abortable s c.args.self.tool c.args.self.stamp) (Err (WrongState, c.args.self)) (Abort c.args.self.tool) (λ a. or_back c.args.self (without a)) _ _
-    (sym c.if-not-is_abortable.ensures) c.in-Ok.ensures refl
-
-pub returns-in-Err : goal.returns-in-Err
-returns-in-Err g c =
-    single_through g.S.Store.versions c.args.service.now c.abort.new.self (λ s. is_abortable s c.args.self.tool c.args.self.stamp) (Err (WrongState, c.args.self)) (Abort c.args.self.tool) (λ a. or_back c.args.self (without a)) _ _
-    (sym c.if-not-is_abortable.ensures) c.in-Err.ensures refl
+    (sym c.if-not-is_abortable.ensures) c.abort.ensures (search rules)

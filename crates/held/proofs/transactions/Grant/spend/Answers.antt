@@ -1,4 +1,4 @@
-use Rattle.std.proofs.Common.{Err, sym, ap}
+use Rattle.std.proofs.Common.{◌≡◌, Err, sym, ap, ◌∙◌, rules}
 use Rattle.service.specs.declared.refusals.Refusal.TheVariants.{WrongState}
 use Rattle.service.specs.declared.tools.Phase.TheVariants.{Closed}
 use Rattle.service.specs.Views.{is_under}
@@ -10,14 +10,8 @@ pub returns-then-not-is_closed : goal.returns-then-not-is_closed
 returns-then-not-is_closed g c =
     held_off g.S.Store.versions c.args.service.now (λ s. is_under Closed s c.args.self.tool c.args.self.stamp) (Err (WrongState, c.args.self)) (settles_all c.args.self c.args.call) (sym c.if-not-is_closed.ensures)
 
-pub returns-in-Ok : goal.returns-in-Ok
-returns-in-Ok g c =
-    let f = c.in-Ok.ensures in
+pub returns : goal.returns
+returns g c =
+    let back : c.map_err.result ≡ or_back c.args.self c.finish.result = search rules in
     let_through g.S.Store.versions c.args.service.now (λ s. is_under Closed s c.args.self.tool c.args.self.stamp) (Err (WrongState, c.args.self)) (settles_all c.args.self c.args.call) c.finish.new.service _
-    (sym c.if-not-is_closed.ensures) f.made (ap (or_back c.args.self) f.answer)
-
-pub returns-in-Err : goal.returns-in-Err
-returns-in-Err g c =
-    let f = c.in-Err.ensures in
-    let_through g.S.Store.versions c.args.service.now (λ s. is_under Closed s c.args.self.tool c.args.self.stamp) (Err (WrongState, c.args.self)) (settles_all c.args.self c.args.call) c.finish.new.service _
-    (sym c.if-not-is_closed.ensures) f.made (ap (or_back c.args.self) f.answer)
+    (sym c.if-not-is_closed.ensures) c.finish.ensures.made (back ∙ ap (or_back c.args.self) c.finish.ensures.answer)
