@@ -59,17 +59,8 @@ impl Desk {
     {
         Desk {
             tools: [Tool::idle(last); TOOLS],
-            reads: Queue::new(ReadToken {
-                tool: 0,
-                item: 0,
-                stamp: 0,
-            }),
-            writes: Queue::new(WriteToken {
-                tool: 0,
-                item: 0,
-                stamp: 0,
-                value: 0,
-            }),
+            reads: Queue::new(),
+            writes: Queue::new(),
         }
     }
 

@@ -2,11 +2,11 @@
 ghost use Rattle.service.specs.declared.tokens.ReadToken.{ReadToken};
 ghost use Rattle.service.specs.declared.tokens.WriteToken.{WriteToken};
 
-use queue::{PLACES, Queued, Token, slices};
+use queue::Token;
 use store::{Item, Stamp, Value};
 
 // A certified read.
-#[derive(Clone, Copy)]
+#[derive(Clone, Copy, Default)]
 pub struct ReadToken {
     pub tool: u8,
     pub item: Item,
@@ -14,7 +14,7 @@ pub struct ReadToken {
 }
 
 // A certified write, with the value that it would leave.
-#[derive(Clone, Copy)]
+#[derive(Clone, Copy, Default)]
 pub struct WriteToken {
     pub tool: u8,
     pub item: Item,
@@ -43,35 +43,5 @@ impl Token for WriteToken {
 
     fn stamp(&self) -> Stamp {
         self.stamp
-    }
-}
-
-impl Queued for ReadToken {
-    fn insert_into(places: &mut [ReadToken; PLACES], used: usize, token: ReadToken) -> bool {
-        slices::insert(&mut places[..], used, token)
-    }
-
-    fn remove_from(
-        places: &mut [ReadToken; PLACES],
-        used: usize,
-        item: Item,
-        stamp: Stamp,
-    ) -> bool {
-        slices::remove(&mut places[..], used, item, stamp)
-    }
-}
-
-impl Queued for WriteToken {
-    fn insert_into(places: &mut [WriteToken; PLACES], used: usize, token: WriteToken) -> bool {
-        slices::insert(&mut places[..], used, token)
-    }
-
-    fn remove_from(
-        places: &mut [WriteToken; PLACES],
-        used: usize,
-        item: Item,
-        stamp: Stamp,
-    ) -> bool {
-        slices::remove(&mut places[..], used, item, stamp)
     }
 }
