@@ -4,7 +4,6 @@ pub mod Rules
 pub mod Room
 pub mod Seats
 pub mod Sound
-mod Prefixes
 mod Lists
 mod Places
 mod Replies

@@ -6,7 +6,7 @@ use Rattle.std.proofs.lemmas.Bool.{lt-leb, le-leb, cases_lt}
 use Rattle.store.specs.declared.Version.{Version}
 use Rattle.service.specs.declared.calls.Call.TheVariants.{Read, Write}
 use Rattle.service.specs.declared.calls.Answer.TheVariants.{Done, Value}
-use Rattle.service.specs.declared.refusals.Refusal.TheVariants.{UnknownItem, TooManyEntries}
+use Rattle.service.specs.declared.refusals.Refusal.TheVariants.{UnknownItem}
 use Rattle.service.specs.declared.tools.Entry.{Entry}
 use Rattle.service.specs.Entries.{find, enter, read_from, written_to, blank}
 use Rattle.service.specs.Refusals.{refusal}
@@ -41,15 +41,9 @@ module _ (s : State) (x : Seat) (t i : ℕ) (known : i < length s.versions) wher
   item_known : leb (length s.versions) i ≡ false
   item_known = lt-leb (length s.versions) i known
 
-  pub read_again : (e : Entry) → find i x.entries ≡ Some e → Replies s x (Read t i) (Ok (Value e.value)) x
-  read_again e f = rw (item_known, f, f)
-
   pub read_first : (v : Version) → version s.versions i ≡ v → find i x.entries ≡ None → length x.entries < 8 → (x' : Seat) → x' ≡ entered x (enter (read_from i v) x.entries)
       → Replies s x (Read t i) (Ok (Value v.value)) x'
   read_first v g f l x' e = rw (item_known, f, lt-leb 8 (length x.entries) l, f, g, e)
-
-  pub read_full : find i x.entries ≡ None → 8 ≤ length x.entries → Replies s x (Read t i) (Err TooManyEntries) x
-  read_full f l = rw (item_known, f, le-leb 8 (length x.entries) l)
 
   pub write_again : (v : ℕ) (e : Entry) → find i x.entries ≡ Some e → (x' : Seat) → x' ≡ entered x (enter (written_to e v) x.entries) → Replies s x (Write t i v) (Ok Done) x'
   write_again v e f x' q = rw (item_known, f, f, q)
@@ -57,6 +51,3 @@ module _ (s : State) (x : Seat) (t i : ℕ) (known : i < length s.versions) wher
   pub write_first : (v : ℕ) → find i x.entries ≡ None → length x.entries < 8 → (x' : Seat) → x' ≡ entered x (enter (written_to (blank i) v) x.entries)
       → Replies s x (Write t i v) (Ok Done) x'
   write_first v f l x' e = rw (item_known, f, lt-leb 8 (length x.entries) l, f, e)
-
-  pub write_full : (v : ℕ) → find i x.entries ≡ None → 8 ≤ length x.entries → Replies s x (Write t i v) (Err TooManyEntries) x
-  write_full v f l = rw (item_known, f, le-leb 8 (length x.entries) l)

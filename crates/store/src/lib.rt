@@ -25,7 +25,7 @@ pub type Value = u32;
 pub type Stamp = u64;
 
 // A parameter's value, the stamp of the transaction that wrote it, and the largest stamp of a settled committed reader.
-#[derive(Clone, Copy, PartialEq, Eq, Debug)]
+#[derive(Clone, Copy, PartialEq, Eq, Debug, Default)]
 pub struct Version {
     pub value: Value,
     pub twrite: Stamp,
