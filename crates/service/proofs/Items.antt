@@ -6,8 +6,7 @@ use Rattle.queue.specs.Queues.{tokens}
 use Rattle.service.specs.declared.calls.Call.{Call}
 use Rattle.service.specs.declared.tools.Tool.{Tool}
 use Rattle.service.specs.declared.desks.Desk.{Desk}
-use Rattle.service.specs.declared.tokens.ReadToken.{ReadToken}
-use Rattle.service.specs.declared.tokens.WriteToken.{WriteToken}
+use Rattle.service.specs.Tokens.{ReadToken, WriteToken}
 use Rattle.service.specs.declared.tools.Entry.{Entry}
 use Rattle.service.specs.Entries.{find}
 use Rattle.service.specs.Service.{Seat, State, seat, tool_of, next_seat, next_versions, next_reads, next_writes, next}

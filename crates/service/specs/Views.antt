@@ -4,8 +4,7 @@ use Rattle.std.specs.List.{list_any}
 use Rattle.service.specs.declared.tools.Entry.{Entry}
 use Rattle.service.specs.declared.tools.Phase.{Phase}
 use Rattle.service.specs.declared.tools.Stand.{Stand}
-use Rattle.service.specs.declared.tokens.ReadToken.{ReadToken}
-use Rattle.service.specs.declared.tokens.WriteToken.{WriteToken}
+use Rattle.service.specs.Tokens.{ReadToken, WriteToken, is_of}
 use Rattle.service.specs.declared.item_list.ItemList.{ItemList}
 use Rattle.service.specs.Entries.{is_held}
 use Rattle.service.specs.Service.{State, seat, is}
@@ -32,10 +31,10 @@ abbrev pub any_of : {A : Type 0} → (A → Bool) → List A → Bool
 any_of p xs = list_any p xs
 
 abbrev pub read_of : ℕ → ℕ → ReadToken → Bool
-read_of t st k = k.tool == t && k.stamp == st
+read_of t st = is_of t st
 
 abbrev pub write_of : ℕ → ℕ → WriteToken → Bool
-write_of t st k = k.tool == t && k.stamp == st
+write_of t st = is_of t st
 
 -- does a token of that tool and stamp stand in a queue
 abbrev pub tokens_stand : State → ℕ → ℕ → Bool

@@ -17,7 +17,7 @@ use crate::certification::{Claim, Standing};
 use crate::desks::{Desk, Effect};
 use crate::refusals::Refusal;
 use crate::settlements::settlement;
-use crate::tokens::{ReadToken, WriteToken};
+use crate::tokens::Certified;
 use crate::tool_numbers::ToolNumber;
 use crate::tools::{Entry, Phase, Tool};
 use queue::{Queue, Token};
@@ -155,15 +155,19 @@ impl Desk {
     {
         let tool = tool.number;
         if entry.seen.is_some() {
-            let _ = self.reads.insert(ReadToken { tool, item, stamp });
-        }
-        if entry.written {
-            let value = entry.value;
-            let _ = self.writes.insert(WriteToken {
+            let _ = self.reads.insert(Certified {
                 tool,
                 item,
                 stamp,
-                value,
+                value: (),
+            });
+        }
+        if entry.written {
+            let _ = self.writes.insert(Certified {
+                tool,
+                item,
+                stamp,
+                value: entry.value,
             });
         }
     }

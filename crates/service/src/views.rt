@@ -6,12 +6,13 @@ ghost use Rattle.store.specs.declared.Version.{Version as Stored};
 ghost use Rattle.service.specs.Service.{seat, is, fresh};
 ghost use Rattle.service.specs.Desks.{seat_of, state};
 ghost use Rattle.service.specs.Services.{state_of};
-ghost use Rattle.service.specs.Views.{is_under, items_of, items_where, held_items, bare_items, any_of, read_of, write_of, tokens_stand};
+ghost use Rattle.service.specs.Tokens.{is_of};
+ghost use Rattle.service.specs.Views.{is_under, items_of, items_where, held_items, bare_items, any_of, tokens_stand};
 
 use crate::desks::Desk;
 use crate::item_list::ItemList;
 use crate::services::Service;
-use crate::tokens::{ReadToken, WriteToken};
+use crate::tokens::Certified;
 use crate::tools::{Phase, Stand, Tool};
 use arrayvec::ArrayVec;
 use store::{Item, Stamp, Store};
@@ -38,32 +39,8 @@ impl Tool {
     }
 }
 
-// A token that a tool has put in its queue.
-pub(crate) trait Owned {
-    ghost owned: { ℕ → ℕ → Self → Bool };
-
-    fn is_of(&self, tool: u8, stamp: Stamp) -> bool
-        ensures { result ≡ owned tool stamp self.now };
-}
-
-impl Owned for ReadToken {
-    ghost owned = { read_of };
-
-    fn is_of(&self, tool: u8, stamp: Stamp) -> bool {
-        self.tool == tool && self.stamp == stamp
-    }
-}
-
-impl Owned for WriteToken {
-    ghost owned = { write_of };
-
-    fn is_of(&self, tool: u8, stamp: Stamp) -> bool {
-        self.tool == tool && self.stamp == stamp
-    }
-}
-
-fn any_of<T: Owned>(tokens: &[T], tool: u8, stamp: Stamp) -> bool
-    ensures { result ≡ any_of (T.owned tool stamp) tokens.now }
+fn any_of<V>(tokens: &[Certified<V>], tool: u8, stamp: Stamp) -> bool
+    ensures { result ≡ any_of (is_of tool stamp) tokens.now }
 {
     tokens.iter().any(|token| token.is_of(tool, stamp))
 }
