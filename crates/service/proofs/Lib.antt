@@ -9,6 +9,7 @@ mod Places
 mod Replies
 mod Acts
 mod Standings
+mod Changes
 mod Claims
 mod Lawful
 mod Items

@@ -70,10 +70,8 @@ impl Desk {
         ensures acts { Acts self.old (Read tool.number item) found result self.new }
         ensures quiet { Quiet (Read tool.number item) found result }
     {
-        match found {
-            Some(version) => plain(self.tools[tool.index()].read(item, version)),
-            None => Err(Refusal::UnknownItem),
-        }
+        let version = found.ok_or(Refusal::UnknownItem)?;
+        plain(self.tools[tool.index()].read(item, version))
     }
 
     fn write(
@@ -86,10 +84,10 @@ impl Desk {
         ensures acts { Acts self.old (Write tool.number item value) found result self.new }
         ensures quiet { Quiet (Write tool.number item value) found result }
     {
-        match found {
-            Some(_) => plain(self.tools[tool.index()].write(item, value)),
-            None => Err(Refusal::UnknownItem),
+        if found.is_none() {
+            return Err(Refusal::UnknownItem);
         }
+        plain(self.tools[tool.index()].write(item, value))
     }
 
     fn close(&mut self, tool: ToolNumber, tick: u64) -> Result<Effect, Refusal>
@@ -115,21 +113,15 @@ impl Desk {
     }
 
     // The first rule of certification that the entry fails rejects it, its item being as it stands.
-    fn check(
-        &self,
-        item: Item,
-        stamp: Stamp,
-        entry: Entry,
-        found: Option<Version>,
-    ) -> Result<(), Refusal>
+    fn check(&self, stamp: Stamp, entry: Entry, found: Option<Version>) -> Result<(), Refusal>
         requires reads { ascending read_tells (tokens self.now.reads) ≡ true }
         requires writes { ascending write_tells (tokens self.now.writes) ≡ true }
-        ensures { (vs : List Stored) → slice_get vs item ≡ found → result ≡ judged (refusal (certification (claim entry stamp) (meets (state vs self.now) item stamp))) }
+        ensures { (vs : List Stored) → slice_get vs entry.item ≡ found → result ≡ judged (refusal (certification (claim entry stamp) (meets (state vs self.now) entry.item stamp))) }
     {
         let Version { twrite, tread, .. } = found.unwrap_or_default();
         let Entry { seen, written, .. } = entry;
-        let writer = stamp_of(self.writes.oldest_above(item, twrite));
-        let reader = stamp_of(self.reads.youngest(item));
+        let writer = stamp_of(self.writes.oldest_above(entry.item, twrite));
+        let reader = stamp_of(self.reads.youngest(entry.item));
         certification::check(
             Claim {
                 seen,
@@ -146,14 +138,15 @@ impl Desk {
     }
 
     // The tokens of a certified entry; there is a place for each, since no other entry of the tools has it.
-    fn enqueue(&mut self, tool: ToolNumber, item: Item, stamp: Stamp, entry: Entry)
+    fn enqueue(&mut self, tool: ToolNumber, stamp: Stamp, entry: Entry)
         requires reads { length (tokens self.old.reads) < 128 }
         requires writes { length (tokens self.old.writes) < 128 }
         ensures tools { self.new.tools ≡ self.old.tools }
-        ensures reads { tokens self.new.reads ≡ with_read tool.number item stamp entry (tokens self.old.reads) }
-        ensures writes { tokens self.new.writes ≡ with_write tool.number item stamp entry (tokens self.old.writes) }
+        ensures reads { tokens self.new.reads ≡ with_read tool.number entry.item stamp entry (tokens self.old.reads) }
+        ensures writes { tokens self.new.writes ≡ with_write tool.number entry.item stamp entry (tokens self.old.writes) }
     {
         let tool = tool.number;
+        let item = entry.item;
         if entry.seen.is_some() {
             let _ = self.reads.insert(Certified {
                 tool,
@@ -173,16 +166,16 @@ impl Desk {
     }
 
     // The tokens of an entry go.
-    fn dequeue(&mut self, item: Item, stamp: Stamp, entry: Entry)
+    fn dequeue(&mut self, stamp: Stamp, entry: Entry)
         ensures tools { self.new.tools ≡ self.old.tools }
-        ensures reads { tokens self.new.reads ≡ without_read item stamp entry (tokens self.old.reads) }
-        ensures writes { tokens self.new.writes ≡ without_write item stamp entry (tokens self.old.writes) }
+        ensures reads { tokens self.new.reads ≡ without_read entry.item stamp entry (tokens self.old.reads) }
+        ensures writes { tokens self.new.writes ≡ without_write entry.item stamp entry (tokens self.old.writes) }
     {
         if entry.seen.is_some() {
-            let _ = self.reads.remove(item, stamp);
+            self.reads.remove(entry.item, stamp);
         }
         if entry.written {
-            let _ = self.writes.remove(item, stamp);
+            self.writes.remove(entry.item, stamp);
         }
     }
 
@@ -203,11 +196,11 @@ impl Desk {
         if entry.stand.is_held() {
             return Err(Refusal::HasToken);
         }
-        if let Err(refusal) = self.check(item, stamp, entry, found) {
+        if let Err(refusal) = self.check(stamp, entry, found) {
             self.tools[tool.index()].fail();
             return Err(refusal);
         }
-        self.enqueue(tool, item, stamp, entry);
+        self.enqueue(tool, stamp, entry);
         self.tools[tool.index()].hold(k);
         plain(Ok(Answer::Done))
     }
@@ -229,8 +222,8 @@ impl Desk {
         if !entry.stand.is_held() {
             return Err(Refusal::NoToken);
         }
-        let change = settlement(phase, item, stamp, entry, found);
-        self.dequeue(item, stamp, entry);
+        let change = settlement(phase, stamp, entry, found);
+        self.dequeue(stamp, entry);
         self.tools[tool.index()].settle(k);
         Ok(Effect {
             answer: Answer::Done,

@@ -49,6 +49,7 @@ impl Tool {
         ensures place { option_map (λ f. f.0) result ≡ index_from 0 item (seat_of self.now).entries }
         ensures within { IfSome result (λ f. f.0 < length (seat_of self.now).entries) }
         ensures entry { option_map (λ f. f.1) result ≡ find item (seat_of self.now).entries }
+        ensures own { IfSome result (λ f. f.1.item ≡ item) }
     {
         let k = self.place_of(item)?;
         Some((k, self.entries[k]))
@@ -147,11 +148,11 @@ impl Tool {
         if !self.all_held() {
             return Err(Refusal::NotCertified);
         }
-        if self.entries.is_empty() {
-            self.phase = Phase::Idle;
+        self.phase = if self.entries.is_empty() {
+            Phase::Idle
         } else {
-            self.phase = Phase::Committed;
-        }
+            Phase::Committed
+        };
         Ok(Answer::Done)
     }
 

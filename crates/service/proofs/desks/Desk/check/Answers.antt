@@ -11,8 +11,8 @@ pub returns : goal.returns
 returns c vs f =
     c.check.ensures
     ∙ ap (λ (x : Found). judged (refusal (certification (claim c.args.entry c.args.stamp) x)))
-    (standing_meets (state vs c.args.self.now) c.args.item c.args.stamp c.requires.reads c.requires.writes c.unwrap_or_default-twrite.result
-    (version_or vs c.args.item c.args.found f _ (λ v p. search rules) _ c.unwrap_or_default-twrite.ensures)
+    (standing_meets (state vs c.args.self.now) c.args.entry.item c.args.stamp c.requires.reads c.requires.writes c.unwrap_or_default-twrite.result
+    (version_or vs c.args.entry.item c.args.found f _ (λ v p. search rules) _ c.unwrap_or_default-twrite.ensures)
     c.stamp_of-writer.result c.stamp_of-reader.result
     (c.stamp_of-writer.ensures ∙ ap (option_map write_tells.stamp) c.oldest_above.ensures)
     (c.stamp_of-reader.ensures ∙ ap (option_map read_tells.stamp) c.youngest.ensures))

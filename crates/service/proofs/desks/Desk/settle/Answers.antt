@@ -18,6 +18,7 @@ returns-clause-acts c vs f =
     let z = c.index-self-index.result in
     let seen : c.find.result ≡ Some (c.in_ok-k.k, c.in_ok-k.entry) = grind arith in
     let present = present_at vs d t c.index.result z c.index.ensures (omega arith) i c.in_ok-k.entry (rw seen at c.find.ensures.entry) in
+    let its = rw seen at c.find.ensures.own in
     let own = own_seat vs d t c.index.result z c.index.ensures (omega arith) in
     let stamp = ap (λ (x : Seat). x.stamp) own in
     settle_held (state vs d) t i c.in_ok-k.entry present (sym c.if-not-is_held.ensures)
@@ -26,6 +27,12 @@ returns-clause-acts c vs f =
     (c.settle.ensures i (state vs d) t
     (ap (λ (x : Tool). index_from 0 i (seat_of x).entries) (same_tool d m c.index-2.result c.index.result c.index-self-index-2.result z (c.index-2.ensures ∙ sym c.index.ensures) (omega arith) c.dequeue.ensures.tools)
     ∙ sym (rw seen at c.find.ensures.place)))
-    (settle_versions (state vs d) t i c.in_ok-k.entry present _ stamp _ (ap (λ (x : Seat). x.phase) own) ∙ sym (c.settlement-change.ensures.value vs f))
-    (settle_reads (state vs d) t i c.in_ok-k.entry present _ stamp ∙ sym c.dequeue.ensures.reads)
-    (settle_writes (state vs d) t i c.in_ok-k.entry present _ stamp ∙ sym c.dequeue.ensures.writes))
+    (settle_versions (state vs d) t i c.in_ok-k.entry present _ stamp _ (ap (λ (x : Seat). x.phase) own) ∙ sym (rw its at (c.settlement-change.ensures.value vs (rw its f))))
+    (settle_reads (state vs d) t i c.in_ok-k.entry present _ stamp ∙ sym (rw its at c.dequeue.ensures.reads))
+    (settle_writes (state vs d) t i c.in_ok-k.entry present _ stamp ∙ sym (rw its at c.dequeue.ensures.writes)))
+
+pub returns-clause-quiet : goal.returns-clause-quiet
+returns-clause-quiet c vs f q =
+    let seen : c.find.result ≡ Some (c.in_ok-k.k, c.in_ok-k.entry) = grind arith in
+    let its = rw seen at c.find.ensures.own in
+    c.settlement-change.ensures.quiet vs (rw its f) q
