@@ -1,10 +1,8 @@
 -- From a tool's own record to the whole state.
-use Rattle.std.proofs.Common.{◌≡◌, ℕ, ◌<◌, Bool, true, false, List, length, get_or, set, Some, None, Ok, Err, Option, Result, sym, refl, ap, ◌∙◌, subst, arith}
+use Rattle.std.proofs.Common.{◌≡◌, ℕ, ◌<◌, List, length, get_or, set, Some, None, Ok, Err, Option, Result, sym, refl, ap, ◌∙◌, subst}
 use Rattle.std.proofs.lemmas.List.{get_or-map, map-set, set-get_or}
-use Rattle.std.proofs.lemmas.Bool.{le-ltb}
 use Rattle.store.specs.declared.Version.{Version}
 use Rattle.service.specs.declared.refusals.Refusal.{Refusal}
-use Rattle.service.specs.declared.refusals.Refusal.TheVariants.{WrongState}
 use Rattle.service.specs.declared.calls.Answer.{Answer}
 use Rattle.service.specs.declared.calls.Call.{Call}
 use Rattle.service.specs.declared.calls.Call.TheVariants.{Begin, Read, Write, Close, Certify, Commit, Abort, Settle}
@@ -13,8 +11,8 @@ use Rattle.service.specs.declared.desks.Desk.{Desk}
 use Rattle.service.specs.declared.desks.Effect.{Effect}
 use Rattle.service.specs.declared.desks.Change.{Change}
 use Rattle.service.specs.Refusals.{refusal}
-use Rattle.service.specs.Service.{Seat, State, seat, fresh, tool_of, allowed, tests, step, answer, next_seat, next, reseat, outcome, reply, Replies}
-use Rattle.service.specs.Desks.{seat_of, state, told, changed, change_of, stored, Acts, Serves, Quiet}
+use Rattle.service.specs.Service.{Seat, State, seat, fresh, tool_of, tests, answer, next_seat, next, reseat, outcome, reply, Replies}
+use Rattle.service.specs.Desks.{seat_of, state, told, changed, change_of, stored}
 use Rattle.service.proofs.Rules.{Mild, mild_refusal}
 
 -- the calls that touch neither versions nor queues
@@ -93,27 +91,3 @@ module _ (vs : List Version) (d : Desk) (t : ℕ) (z : Tool) (lt : t < length d.
       acts_seat c i o a y h
       ∙ (ap (λ (b : Result Answer Refusal). (b, state vs (record { tools = set d.tools t y; reads = d.reads; writes = d.writes }))) (sym p)
       ∙ ap (λ (h : Option Change). (told e, state (changed h vs) (record { tools = set d.tools t y; reads = d.reads; writes = d.writes }))) (sym q))
-
--- tool and phase are right, or the phase is not
-pub passed : (s : State) (c : Call) → tool_of c < 16 → allowed c (seat s (tool_of c)).phase ≡ true
-    → step s c ≡ outcome s (seat s (tool_of c)) c (refusal (tests s (seat s (tool_of c)) c))
-passed s c l a = rw (le-ltb 15 (tool_of c) (omega arith), a)
-
-pub wrong : (s : State) (c : Call) → tool_of c < 16 → allowed c (seat s (tool_of c)).phase ≡ false → step s c ≡ (Err WrongState, s)
-wrong s c l a = rw (le-ltb 15 (tool_of c) (omega arith), a)
-
-module _ (d : Desk) (c : Call) (t : ℕ) (z : Tool) (e : t ≡ tool_of c) (few : t < 16) (lt : t < length d.tools) where
-  phase_at : (vs : List Version) (b : Bool) → allowed c (get_or d.tools t z).phase ≡ b → allowed c (seat (state vs d) (tool_of c)).phase ≡ b
-  phase_at vs b h =
-      ap (λ (x : Seat). allowed c x.phase) (ap (λ (n : ℕ). seat (state vs d) n) (sym e) ∙ seat_at_tool vs d t z lt) ∙ h
-
-  pub serves_right : (f : Option Version) (r : Result Effect Refusal) (d' : Desk) → allowed c (get_or d.tools t z).phase ≡ true → Acts d c f r d' → Serves d c f r d'
-  serves_right f r d' a h vs g = passed (state vs d) c (omega arith) (phase_at vs true a) ∙ h vs g
-
-  pub serves_wrong : (f : Option Version) → allowed c (get_or d.tools t z).phase ≡ false → Serves d c f (Err WrongState) d
-  serves_wrong f a vs g = wrong (state vs d) c (omega arith) (phase_at vs false a)
-
--- an arm of the dispatch: the arriving call is c, and the tool's phase allows it
-pub arm : (d : Desk) (call c : Call) (f : Option Version) (r : Result Effect Refusal) (d' : Desk) (z : Tool) → call ≡ c → tool_of c < 16 → tool_of c < length d.tools
-    → allowed c (get_or d.tools (tool_of c) z).phase ≡ true → Acts d c f r d' → Quiet c f r → Serves d call f r d' × Quiet call f r
-arm d call c f r d' z e l lt a h q = subst (λ (x : Call). Serves d x f r d' × Quiet x f r) (sym e) (serves_right d c (tool_of c) z refl l lt f r d' a h, q)

@@ -1,8 +1,5 @@
 -- What an accepted call answers is fixed by the call.
-use Rattle.std.proofs.Common.{◌≡◌, ℕ, ◌<◌, false, leb, List, length, Some, None, Ok, Err, Option, Result, sym, refl, ap, ◌∙◌, subst, arith}
-use Rattle.std.proofs.lemmas.Bool.{lt-leb}
-use Rattle.queue.specs.Tokens.{count}
-use Rattle.service.specs.declared.looks.Look.{Look}
+use Rattle.std.proofs.Common.{◌≡◌, ℕ, List, Some, None, Ok, Err, Option, Result, refl, ap, ◌∙◌, subst, arith}
 use Rattle.store.specs.declared.Version.{Version}
 use Rattle.service.specs.declared.refusals.Refusal.{Refusal}
 use Rattle.service.specs.declared.calls.Call.{Call}
@@ -11,8 +8,8 @@ use Rattle.service.specs.declared.calls.Answer.{Answer}
 use Rattle.service.specs.declared.calls.Answer.TheVariants.{Done}
 use Rattle.service.specs.declared.services.Service.{Service}
 use Rattle.service.specs.Refusals.{refusal}
-use Rattle.service.specs.Service.{State, Seat, seat, version, read_tells, write_tells, tool_of, rules, answer, outcome, Does}
-use Rattle.service.specs.Services.{state_of, Makes, AnswersDone, looked}
+use Rattle.service.specs.Service.{State, Seat, seat, tool_of, rules, answer, outcome, Does}
+use Rattle.service.specs.Services.{state_of, Makes, AnswersDone}
 
 accepted_answer : (s s' : State) (c : Call) (a : Answer) → Does s c (Ok a) s' → a ≡ answer s (seat s (tool_of c)) c
 accepted_answer s s' c a h = go (refusal (rules s c)) h
@@ -39,10 +36,3 @@ pub finishes : {S : Type 0} (versions : S → List Version) (x y : Service S) (c
 finishes versions x y c a m d =
     subst (λ (b : Answer). Makes versions x c (Ok b) y)
     (accepted_answer (state_of versions x) (state_of versions y) c a m.does ∙ answers_done (state_of versions x) (seat (state_of versions x) (tool_of c)) c d) m
-
-pub looked_known : (s : State) (i : ℕ) (v : Version) (r w : ℕ) → i < length s.versions → version s.versions i ≡ v → r ≡ count read_tells i s.reads → w ≡ count write_tells i s.writes
-    → Ok (record { version = v; reads = r; writes = w }) ≡ looked s i
-looked_known s i v r w l a b c =
-    let of : Version → ℕ → ℕ → Look = λ x y z. record { version = x; reads = y; writes = z } in
-    let h : leb (length s.versions) i ≡ false = lt-leb (length s.versions) i l in
-    rw h (ap (λ (x : Version). Ok (of x r w)) (sym a) ∙ (ap (λ (y : ℕ). Ok (of (version s.versions i) y w)) b ∙ ap (λ (z : ℕ). Ok (of (version s.versions i) (count read_tells i s.reads) z)) c))

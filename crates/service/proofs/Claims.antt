@@ -1,7 +1,7 @@
 -- What certifying and settling an item do, by what stands there.
-use Rattle.std.proofs.Common.{◌≡◌, ℕ, Bool, true, false, cond, [], ◌∷◌, set, Some, None, Ok, Err, Option, sym, refl, ap, subst, arith}
+use Rattle.std.proofs.Common.{◌≡◌, ℕ, Bool, true, false, cond, [], ◌∷◌, set, Some, None, Ok, Err, Option, is_err, sym, refl, ap, subst, arith}
+use Rattle.std.proofs.lemmas.Bool.{false≢true}
 use Rattle.service.specs.declared.refusals.Refusal.{Refusal}
-use Rattle.service.specs.declared.refusals.Refusal.TheVariants.{NoEntry, HasToken, NoToken}
 use Rattle.service.specs.declared.calls.Answer.TheVariants.{Done}
 use Rattle.service.specs.declared.calls.Call.TheVariants.{Certify, Settle}
 use Rattle.service.specs.declared.certification.Claim.{Claim}
@@ -9,7 +9,7 @@ use Rattle.service.specs.declared.tools.Entry.{Entry}
 use Rattle.service.specs.declared.tools.Phase.{Phase}
 use Rattle.service.specs.declared.tools.Phase.TheVariants.{Failed, Committed}
 use Rattle.service.specs.Refusals.{Rules, refusal, rejects}
-use Rattle.service.specs.Certification.{Found, certification}
+use Rattle.service.specs.Certification.{Found, certification, judged}
 use Rattle.service.specs.Entries.{is_held, find, settled_version}
 use Rattle.service.specs.Service.{State, seat, is, version, tests, outcome, next, next_reads, next_writes, next_versions, with_read, with_write, without_read, without_write, reseat, phased, claim, meets}
 
@@ -29,17 +29,16 @@ harsh_refusal (x ∷ xs) m r h = go (harsh_refusal xs m.1 r) x.0 h
 rejection_rejects : (c : Claim) (f : Found) (r : Refusal) → refusal (certification c f) ≡ Some r → rejects r ≡ true
 rejection_rejects c f r h = harsh_refusal (certification c f) (refl, (refl, (refl, (refl, (refl, tt))))) r h
 
+pub judged_err : (o : Option Refusal) (r : Refusal) → Err r ≡ judged o → o ≡ Some r
+judged_err None r h = absurd (false≢true (sym (ap is_err h)))
+judged_err (Some q) r h = let e : r ≡ q = cc in ap Some (sym e)
+
+pub judged_ok : (o : Option Refusal) (u : Unit {0}) → Ok u ≡ judged o → o ≡ None
+judged_ok None u h = refl
+judged_ok (Some q) u h = absurd (false≢true (ap is_err h))
+
 module _ (s : State) (t i : ℕ) where
-  pub certify_absent : find i (seat s t).entries ≡ None → outcome s (seat s t) (Certify t i) (refusal (tests s (seat s t) (Certify t i))) ≡ (Err NoEntry, s)
-  certify_absent f = rw f
-
-  pub settle_absent : find i (seat s t).entries ≡ None → outcome s (seat s t) (Settle t i) (refusal (tests s (seat s t) (Settle t i))) ≡ (Err NoEntry, s)
-  settle_absent f = rw f
-
   module _ (e : Entry) (f : find i (seat s t).entries ≡ Some e) where
-    pub certify_held : is_held e.stand ≡ true → outcome s (seat s t) (Certify t i) (refusal (tests s (seat s t) (Certify t i))) ≡ (Err HasToken, s)
-    certify_held h = rw (f, h)
-
     -- under the stamp st
     module _ (st : ℕ) (p : (seat s t).stamp ≡ st) where
       under : (o : Option Refusal) → refusal (certification (claim e st) (meets s i st)) ≡ o → refusal (certification (claim e (seat s t).stamp) (meets s i (seat s t).stamp)) ≡ o
@@ -68,9 +67,6 @@ module _ (s : State) (t i : ℕ) where
       pub settle_versions : (h : Phase) → (seat s t).phase ≡ h
           → next_versions s (seat s t) (Settle t i) ≡ cond (is h Committed) (set s.versions i (settled_version e st (version s.versions i))) s.versions
       settle_versions h q = rw (f, p, q)
-
-    pub settle_bare : is_held e.stand ≡ false → outcome s (seat s t) (Settle t i) (refusal (tests s (seat s t) (Settle t i))) ≡ (Err NoToken, s)
-    settle_bare h = rw (f, h)
 
     pub settle_held : is_held e.stand ≡ true → outcome s (seat s t) (Settle t i) (refusal (tests s (seat s t) (Settle t i))) ≡ (Ok Done, next s (seat s t) (Settle t i))
     settle_held h = let z : refusal (tests s (seat s t) (Settle t i)) ≡ None = rw (f, h) in ap (outcome s (seat s t) (Settle t i)) z

@@ -1,10 +1,8 @@
 -- What a lawful desk gives to the code.
-use Rattle.std.proofs.Common.{◌≡◌, ℕ, ◌<◌, true, false, List, [], length, Some, Result, sym, ap, subst}
-use mathlib.Core.Bool.{Bool-set}
+use Rattle.std.proofs.Common.{◌≡◌, ℕ, ◌<◌, false, List, [], length, Some, Result, sym, ap, subst}
 use mathlib.Core.Logic.{∥∥₁_elim, ∥∥₁_map}
 use native.Mathlib.Bridge.{le_prop}
 use Rattle.store.specs.declared.Version.{Version}
-use Rattle.queue.specs.Tokens.{ascending}
 use Rattle.queue.specs.Queues.{tokens}
 use Rattle.service.specs.declared.refusals.Refusal.{Refusal}
 use Rattle.service.specs.declared.calls.Answer.{Answer}
@@ -12,7 +10,7 @@ use Rattle.service.specs.declared.calls.Call.{Call}
 use Rattle.service.specs.declared.desks.Desk.{Desk}
 use Rattle.service.specs.declared.tools.Entry.{Entry}
 use Rattle.service.specs.Entries.{is_held, find}
-use Rattle.service.specs.Service.{State, seat, read_tells, write_tells, step, start}
+use Rattle.service.specs.Service.{State, seat, step, start}
 use Rattle.service.specs.Sound.{Sound}
 use Rattle.service.specs.Desks.{state, Lawful}
 use Rattle.service.proofs.Sound.{sound_start, sound_step, roomy}
@@ -29,12 +27,6 @@ sound_any us vs d s = record {
 }
 
 module _ (d : Desk) (l : Lawful d) where
-  pub reads_ascend : ascending read_tells (tokens d.reads) ≡ true
-  reads_ascend = ∥∥₁_elim l (Bool-set _ _) (λ s. s.reads_ordered)
-
-  pub writes_ascend : ascending write_tells (tokens d.writes) ≡ true
-  writes_ascend = ∥∥₁_elim l (Bool-set _ _) (λ s. s.writes_ordered)
-
   -- an entry without a token leaves room for its tokens
   module _ (t i : ℕ) (e : Entry) (lt : t < 16) (f : find i (seat (state [] d) t).entries ≡ Some e) (n : is_held e.stand ≡ false) where
     pub reads_room : length (tokens d.reads) < 128

@@ -4,12 +4,12 @@ pub mod Rules
 pub mod Room
 pub mod Seats
 pub mod Sound
-mod Prefixes
 mod Lists
 mod Places
 mod Replies
 mod Acts
 mod Standings
+mod Changes
 mod Claims
 mod Lawful
 mod Items

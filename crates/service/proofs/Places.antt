@@ -1,11 +1,11 @@
 -- An entry by its place, and by its item.
-use Rattle.std.proofs.Common.{◌≡◌, ℕ, zero, suc, ◌+◌, ◌-◌, ◌<◌, ◌≤◌, Bool, true, false, cond, eqb, List, [], ◌∷◌, ◌++◌, length, get_or, take, set, Some, None, Option, sym, refl, ap, ◌∙◌, arith}
+use Rattle.std.proofs.Common.{◌≡◌, ℕ, suc, ◌+◌, ◌-◌, ◌<◌, ◌≤◌, Bool, true, false, cond, eqb, List, [], ◌∷◌, ◌++◌, length, get_or, set, Some, None, Option, sym, refl, ap, ◌∙◌, arith}
 use Rattle.std.proofs.lemmas.Bool.{eqb-true}
-use Rattle.std.proofs.lemmas.List.{get_or-take, length-take-le}
+use Rattle.std.specs.List.{refill}
+use Rattle.service.proofs.Lists.{rewritten}
 use Rattle.service.specs.declared.tools.Entry.{Entry}
 use Rattle.service.specs.declared.tools.Stand.{Stand}
 use Rattle.service.specs.Entries.{find, enter, blank, or_blank, stood, index_from}
-use Rattle.service.specs.Service.{is_empty}
 
 -- the entry of item i is found at place k
 pub record Found (i k : ℕ) (es : List Entry) : Type 0 where
@@ -56,34 +56,20 @@ index_none n i (x ∷ es) h = go (index_none (n + 1) i es) (eqb i x.item) refl h
     go ih true e q = let z : ◌≡◌ {A = ℕ} 0 1 = cc in absurd (omega arith)
     go ih false e q = let (a, b) = ih q in (rw e a, λ g r. let d : eqb g.item x.item ≡ false = rw r e in rw d (ap (λ (l : List Entry). x ∷ l) (b g r)))
 
--- a write inside the prefix of an array
-pub set_prefix : {X : Type 0} (n k : ℕ) (xs : List X) (x : X) → take n (set xs k x) ≡ set (take n xs) k x
-set_prefix zero k xs x = refl
-set_prefix (suc n) k [] x = refl
-set_prefix (suc n) zero (y ∷ xs) x = refl
-set_prefix (suc n) (suc k) (y ∷ xs) x = ap (λ (l : List _). y ∷ l) (set_prefix n k xs x)
+-- the entry of item i stands at place k
+module _ (es : List Entry) (i k : ℕ) (at : index_from 0 i es ≡ Some k) where
+  pub found_at : find i es ≡ Some (get_or es k (blank 0))
+  found_at = (index_some i es k at).found
 
-pub nonempty : {X : Type 0} (n : ℕ) (xs : List X) → (n ≡ 0 → ⊥) → 0 < length xs → is_empty (take n xs) ≡ false
-nonempty zero xs h l = absurd (h refl)
-nonempty (suc n) [] h l = absurd (omega arith)
-nonempty (suc n) (x ∷ xs) h l = refl
+  pub item_at : (get_or es k (blank 0)).item ≡ i
+  item_at = (index_some i es k at).item
 
--- the entry of item i stands at place k of an array of which the first n places are in use
-module _ (xs : List Entry) (n i k : ℕ) (fits : n ≤ length xs) (at : index_from 0 i (take n xs) ≡ Some k) where
-  place : Found i k (take n xs)
-  place = index_some i (take n xs) k at
+  pub enter_at : (e : Entry) → e.item ≡ i → set es k e ≡ enter e es
+  enter_at e h = sym ((index_some i es k at).enters e h)
 
-  same : get_or (take n xs) k (blank 0) ≡ get_or xs k (blank 0)
-  same = get_or-take n xs k (blank 0) (let a = place.within in let b = length-take-le n xs fits in omega arith)
+  pub stand_at : (a : Stand) → set es k (stood (get_or es k (blank 0)) a) ≡ enter (stood (or_blank i (find i es)) a) es
+  stand_at a = enter_at (stood (get_or es k (blank 0)) a) item_at ∙ ap (λ (o : Option Entry). enter (stood (or_blank i o) a) es) (sym found_at)
 
-  pub found_at : find i (take n xs) ≡ Some (get_or xs k (blank 0))
-  found_at = place.found ∙ ap Some same
-
-  pub item_at : (get_or xs k (blank 0)).item ≡ i
-  item_at = ap (λ (e : Entry). e.item) (sym same) ∙ place.item
-
-  pub enter_at : (e : Entry) → e.item ≡ i → take n (set xs k e) ≡ enter e (take n xs)
-  enter_at e h = set_prefix n k xs e ∙ sym (place.enters e h)
-
-  pub stand_at : (a : Stand) → take n (set xs k (stood (get_or xs k (blank 0)) a)) ≡ enter (stood (or_blank i (find i (take n xs))) a) (take n xs)
-  stand_at a = enter_at (stood (get_or xs k (blank 0)) a) item_at ∙ ap (λ (o : Option Entry). enter (stood (or_blank i o) a) (take n xs)) (sym found_at)
+  -- as a write through another name of the entries leaves it
+  pub stood_at : (seen : List Entry) → seen ≡ es → (a : Stand) → refill (length es) es (set seen k (stood (get_or seen k (blank 0)) a)) ≡ enter (stood (or_blank i (find i es)) a) es
+  stood_at seen e a = rewritten es seen k (stood (get_or seen k (blank 0)) a) e ∙ ap (λ (l : List Entry). set es k (stood (get_or l k (blank 0)) a)) e ∙ stand_at a

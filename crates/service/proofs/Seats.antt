@@ -7,8 +7,7 @@ use Rattle.service.specs.declared.tools.Entry.{Entry}
 use Rattle.service.specs.declared.tools.Phase.{Phase}
 use Rattle.service.specs.declared.tools.Phase.TheVariants.{Open, Closed}
 use Rattle.service.specs.declared.tools.Stand.TheVariants.{Held, Settled}
-use Rattle.service.specs.declared.tokens.ReadToken.{ReadToken}
-use Rattle.service.specs.declared.tokens.WriteToken.{WriteToken}
+use Rattle.service.specs.Tokens.{ReadToken, WriteToken}
 use Rattle.service.specs.Entries.{is_held, find, enter, stood, any_held}
 use Rattle.service.specs.Service.{Seat, fresh, read_tells, write_tells, absent, entry, phased, entered, rested, unless_held}
 use Rattle.service.specs.Sound.{Stamped, is_read, is_written, SeatSound}

@@ -13,8 +13,7 @@ use Rattle.service.specs.declared.tools.Entry.{Entry}
 use Rattle.service.specs.declared.tools.Phase.{Phase}
 use Rattle.service.specs.declared.tools.Phase.TheVariants.{Idle, Open, Closed, Failed, Committed, Aborting}
 use Rattle.service.specs.declared.tools.Stand.TheVariants.{Settled}
-use Rattle.service.specs.declared.tokens.ReadToken.{ReadToken}
-use Rattle.service.specs.declared.tokens.WriteToken.{WriteToken}
+use Rattle.service.specs.Tokens.{ReadToken, WriteToken}
 use Rattle.service.specs.Refusals.{refusal, rejects}
 use Rattle.service.specs.Entries.{is_held, find, enter, read_from, written_to, stood, any_held}
 use Rattle.service.specs.Service.{Seat, State, read_tells, write_tells, fresh, seat, version, entry, absent, is, tool_of, counter, rules, phased, entered, rested, is_empty, unless_held, next, next_versions, next_reads, next_writes, next_seat, reseat, outcome, step, largest, start}
@@ -186,7 +185,7 @@ module _ (s : State) (k : Sound s) where
           (ordered_grown read_tells s.reads (is_read e) rt k.reads_ordered) (ordered_grown write_tells s.writes (is_written e) wt k.writes_ordered)
         where
           rt : ReadToken
-          rt = record { tool = t; item = i; stamp = (seat s t).stamp }
+          rt = record { tool = t; item = i; stamp = (seat s t).stamp; value = tt }
 
           wt : WriteToken
           wt = record { tool = t; item = i; stamp = (seat s t).stamp; value = e.value }

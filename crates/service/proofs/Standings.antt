@@ -1,6 +1,6 @@
 -- What the oldest write token and the youngest read token tell is what the rules ask of all tokens.
-use Rattle.std.proofs.Common.{◌≡◌, ℕ, Bool, true, List, Some, None, Option, unwrap_or, sym, refl, ap, ◌∙◌, subst}
-use Rattle.std.specs.Option.{option_map}
+use Rattle.std.proofs.Common.{◌≡◌, ℕ, Bool, true, List, Some, None, Option, sym, refl, ap, ◌∙◌, subst}
+use Rattle.std.specs.Option.{option_map, UnwrapsOrElse}
 use Rattle.std.specs.List.{slice_get}
 use Rattle.std.proofs.lemmas.List.{get_or_past}
 use Rattle.store.specs.declared.Version.{Version}
@@ -18,10 +18,11 @@ from_stamp : {A : Type 0} (k : Tells A) (o : Option A) (s : ℕ) → is_from (op
 from_stamp k None s = refl
 from_stamp k (Some x) s = refl
 
--- the version that get answered, or one with no stamps
-pub version_or : (vs : List Version) (i : ℕ) (f : Option Version) → slice_get vs i ≡ f → version vs i ≡ unwrap_or f (record { value = 0; twrite = 0; tread = 0 })
-version_or vs i None h = get_or_past vs i (record { value = 0; twrite = 0; tread = 0 }) (past_end vs i h)
-version_or vs i (Some v) h = (got vs i v h).1
+-- the version that get answered, or the default
+pub version_or : (vs : List Version) (i : ℕ) (f : Option Version) → slice_get vs i ≡ f
+    → (P : Version → Type 0) → ((w : Version) → P w → w ≡ record { value = 0; twrite = 0; tread = 0 }) → (v : Version) → UnwrapsOrElse f P v → version vs i ≡ v
+version_or vs i None h P z v u = get_or_past vs i (record { value = 0; twrite = 0; tread = 0 }) (past_end vs i h) ∙ sym (z v u)
+version_or vs i (Some w) h P z v u = (got vs i w h).1 ∙ sym u
 
 module _ (s : State) (i st : ℕ) (reads : ascending read_tells s.reads ≡ true) (writes : ascending write_tells s.writes ≡ true) where
   abbrev Same : Version → Type 0

@@ -7,8 +7,7 @@ use Rattle.service.specs.declared.calls.Answer.{Answer}
 use Rattle.service.specs.declared.calls.Answer.TheVariants.{Done, Stamp}
 use Rattle.service.specs.declared.calls.Call.{Call}
 use Rattle.service.specs.declared.calls.Call.TheVariants.{Begin, Close, Abort}
-use Rattle.service.specs.declared.tokens.ReadToken.{ReadToken}
-use Rattle.service.specs.declared.tokens.WriteToken.{WriteToken}
+use Rattle.service.specs.Tokens.{ReadToken, WriteToken}
 use Rattle.service.specs.declared.tools.Entry.{Entry}
 use Rattle.service.specs.declared.tools.Stand.TheVariants.{Bare}
 use Rattle.service.specs.Refusals.{number, refusal}
@@ -22,7 +21,7 @@ at tw tr = record { value = 0; twrite = tw; tread = tr }
 
 abbrev pub reads_at : List ℕ → List ReadToken
 reads_at [] = []
-reads_at (n ∷ ns) = record { tool = 0; item = 0; stamp = n } ∷ reads_at ns
+reads_at (n ∷ ns) = record { tool = 0; item = 0; stamp = n; value = tt } ∷ reads_at ns
 
 abbrev pub writes_at : List ℕ → List WriteToken
 writes_at [] = []

@@ -1,6 +1,7 @@
 -- The rules of certification. They look at stamps only.
-use Rattle.std.specs.Prelude.{ℕ, Bool, false, not, ◌&&◌, [], ◌∷◌, is_some, Some, None, Option, ◌==◌, nat_le, nat_lt}
+use Rattle.std.specs.Prelude.{ℕ, Bool, false, not, ◌&&◌, [], ◌∷◌, is_some, Some, None, Option, Ok, Err, Result, ◌==◌, nat_le, nat_lt}
 use Rattle.std.specs.Option.{unwrap_or}
+use Rattle.service.specs.declared.refusals.Refusal.{Refusal}
 use Rattle.service.specs.declared.refusals.Refusal.TheVariants.{VersionChanged, BehindWrite, WriteBetween, BehindRead, ReadStands}
 use Rattle.service.specs.declared.certification.Claim.{Claim}
 use Rattle.service.specs.declared.certification.Standing.{Standing}
@@ -34,3 +35,8 @@ is_from (Some n) s = nat_le s n
 -- what the oldest write token above twrite and the youngest read token tell
 abbrev pub met : ℕ → Standing → Found
 met s n = record { twrite = n.twrite; tread = n.tread; crossed = is_below n.writer s; reached = is_from n.reader s }
+
+-- the first rule that is true rejects
+abbrev pub judged : Option Refusal → Result (Unit {0}) Refusal
+judged None = Ok tt
+judged (Some r) = Err r

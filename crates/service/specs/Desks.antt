@@ -1,5 +1,5 @@
 -- What the service's memory means: the entries and the tokens in use.
-use Rattle.std.specs.Prelude.{◌≡◌, ℕ, List, [], map, take, Some, None, Ok, Err, Option, Result, slice_set}
+use Rattle.std.specs.Prelude.{◌≡◌, ℕ, List, [], map, Some, None, Ok, Err, Option, Result, slice_set}
 use Rattle.std.specs.List.{slice_get}
 use Rattle.store.specs.declared.Version.{Version}
 use Rattle.queue.specs.Queues.{tokens}
@@ -16,7 +16,7 @@ use Rattle.service.specs.Service.{Seat, State, seat, tool_of, tests, outcome, st
 use Rattle.service.specs.Sound.{Sound}
 
 abbrev pub seat_of : Tool → Seat
-seat_of x = record { phase = x.phase; last = x.last; stamp = x.stamp; entries = take x.used x.entries }
+seat_of x = record { phase = x.phase; last = x.last; stamp = x.stamp; entries = x.entries.items }
 
 abbrev pub state : List Version → Desk → State
 state vs d = record { versions = vs; seats = map seat_of d.tools; reads = tokens d.reads; writes = tokens d.writes }

@@ -1,5 +1,6 @@
 -- The entries of a transaction, at most one an item.
-use Rattle.std.specs.Prelude.{ℕ, ◌+◌, max, Bool, true, false, cond, ◌&&◌, ◌||◌, List, [], ◌∷◌, is_some, Some, None, Option, ◌==◌, nat_lt}
+use Rattle.std.specs.Prelude.{ℕ, max, Bool, true, false, cond, ◌&&◌, List, [], ◌∷◌, is_some, Some, None, Option, ◌==◌, nat_lt}
+use Rattle.std.specs.List.{list_any, list_all, position_from}
 use Rattle.store.specs.declared.Version.{Version}
 use Rattle.service.specs.declared.tools.Entry.{Entry}
 use Rattle.service.specs.declared.tools.Stand.{Stand}
@@ -38,12 +39,10 @@ abbrev pub stood : Entry → Stand → Entry
 stood e a = record { item = e.item; value = e.value; seen = e.seen; written = e.written; stand = a }
 
 abbrev pub any_held : List Entry → Bool
-any_held [] = false
-any_held (e ∷ es) = is_held e.stand || any_held es
+any_held es = list_any (λ e. is_held e.stand) es
 
 abbrev pub all_held : List Entry → Bool
-all_held [] = true
-all_held (e ∷ es) = is_held e.stand && all_held es
+all_held es = list_all (λ e. is_held e.stand) es
 
 -- the version once a committed entry with that stamp is settled: a read raises tread, and a write that
 -- comes after a later one is dropped
@@ -56,5 +55,4 @@ settled_version e st v = record {
 
 -- the place of the item's entry, counted from n
 abbrev pub index_from : ℕ → ℕ → List Entry → Option ℕ
-index_from n i [] = None
-index_from n i (e ∷ es) = cond (i == e.item) (Some n) (index_from (n + 1) i es)
+index_from n i es = position_from (λ e. i == e.item) n es

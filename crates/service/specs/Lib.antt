@@ -1,6 +1,7 @@
 pub mod Refusals
 pub mod Certification
 pub mod Entries
+pub mod Tokens
 pub mod Service
 pub mod Sound
 pub mod Desks

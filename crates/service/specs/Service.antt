@@ -12,8 +12,7 @@ use Rattle.service.specs.declared.tools.Entry.{Entry}
 use Rattle.service.specs.declared.tools.Phase.{Phase}
 use Rattle.service.specs.declared.tools.Phase.TheVariants.{Idle, Open, Closed, Failed, Committed, Aborting}
 use Rattle.service.specs.declared.tools.Stand.TheVariants.{Held, Settled}
-use Rattle.service.specs.declared.tokens.ReadToken.{ReadToken}
-use Rattle.service.specs.declared.tokens.WriteToken.{WriteToken}
+use Rattle.service.specs.Tokens.{ReadToken, WriteToken, certified_tells}
 use Rattle.service.specs.Refusals.{Rules, refusal, rejects}
 use Rattle.service.specs.declared.certification.Claim.{Claim}
 use Rattle.service.specs.Certification.{Found, certification}
@@ -33,10 +32,10 @@ pub record State : Type 0 where
   pub writes : List WriteToken
 
 abbrev pub read_tells : Tells ReadToken
-read_tells = record { item = λ (k : ReadToken). k.item; stamp = λ (k : ReadToken). k.stamp }
+read_tells = certified_tells
 
 abbrev pub write_tells : Tells WriteToken
-write_tells = record { item = λ (k : WriteToken). k.item; stamp = λ (k : WriteToken). k.stamp }
+write_tells = certified_tells
 
 -- looking
 
@@ -182,7 +181,7 @@ next_versions s x (Settle t i) = cond (is x.phase Committed) (slice_set s.versio
 
 -- the queues with the tokens of item i's entry under a stamp, and without them
 abbrev pub with_read : ℕ → ℕ → ℕ → Entry → List ReadToken → List ReadToken
-with_read t i st e q = cond (is_some e.seen) (place read_tells (record { tool = t; item = i; stamp = st }) q) q
+with_read t i st e q = cond (is_some e.seen) (place read_tells (record { tool = t; item = i; stamp = st; value = tt }) q) q
 
 abbrev pub with_write : ℕ → ℕ → ℕ → Entry → List WriteToken → List WriteToken
 with_write t i st e q = cond e.written (place write_tells (record { tool = t; item = i; stamp = st; value = e.value }) q) q

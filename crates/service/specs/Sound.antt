@@ -5,8 +5,7 @@ use Rattle.queue.specs.Tokens.{has, ascending}
 use Rattle.service.specs.declared.tools.Entry.{Entry}
 use Rattle.service.specs.declared.tools.Phase.{Phase}
 use Rattle.service.specs.declared.tools.Phase.TheVariants.{Idle, Open, Closed, Failed, Committed, Aborting}
-use Rattle.service.specs.declared.tokens.ReadToken.{ReadToken}
-use Rattle.service.specs.declared.tokens.WriteToken.{WriteToken}
+use Rattle.service.specs.Tokens.{ReadToken, WriteToken}
 use Rattle.service.specs.Entries.{is_held, find, any_held}
 use Rattle.service.specs.Service.{Seat, State, seat, read_tells, write_tells}
 

@@ -1,7 +1,7 @@
 // The rules of certification: one function that sees stamps only.
 ghost use Rattle.std.specs.Prelude.{◌≡◌};
 ghost use Rattle.service.specs.Refusals.{refusal};
-ghost use Rattle.service.specs.Certification.{certification, met};
+ghost use Rattle.service.specs.Certification.{certification, judged, met};
 
 use crate::refusals::Refusal;
 use store::Stamp;
@@ -23,32 +23,28 @@ pub struct Standing {
     pub reader: Option<Stamp>,
 }
 
-// The first rule that rejects the claim; none if it is honoured.
-pub fn rejection(claim: Claim, standing: Standing) -> Option<Refusal>
-    ensures { result ≡ refusal (certification claim (met claim.stamp standing)) }
+// The first rule that it fails rejects the claim.
+pub fn check(claim: Claim, standing: Standing) -> Result<(), Refusal>
+    ensures { result ≡ judged (refusal (certification claim (met claim.stamp standing))) }
 {
     if let Some(seen) = claim.seen {
         if standing.twrite != seen {
-            return Some(Refusal::VersionChanged);
+            return Err(Refusal::VersionChanged);
         }
         if claim.stamp <= standing.twrite {
-            return Some(Refusal::BehindWrite);
+            return Err(Refusal::BehindWrite);
         }
-        if let Some(writer) = standing.writer {
-            if writer < claim.stamp {
-                return Some(Refusal::WriteBetween);
-            }
+        if standing.writer.is_some_and(|writer| writer < claim.stamp) {
+            return Err(Refusal::WriteBetween);
         }
     }
     if claim.written {
         if claim.stamp <= standing.tread {
-            return Some(Refusal::BehindRead);
+            return Err(Refusal::BehindRead);
         }
-        if let Some(reader) = standing.reader {
-            if claim.stamp <= reader {
-                return Some(Refusal::ReadStands);
-            }
+        if standing.reader.is_some_and(|reader| claim.stamp <= reader) {
+            return Err(Refusal::ReadStands);
         }
     }
-    None
+    Ok(())
 }

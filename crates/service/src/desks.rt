@@ -1,15 +1,15 @@
 // What a service keeps beside its store: the tools and the two queues.
 use crate::calls::Answer;
 use crate::tokens::{ReadToken, WriteToken};
-use crate::tools::{TOOLS, Tool};
+use crate::tools::{PLACES, TOOLS, Tool};
 use queue::Queue;
 use store::{Item, Version};
 
 #[derive(Drop)]
 pub struct Desk {
     pub(crate) tools: [Tool; TOOLS],
-    pub(crate) reads: Queue<ReadToken>,
-    pub(crate) writes: Queue<WriteToken>,
+    pub(crate) reads: Queue<ReadToken, PLACES>,
+    pub(crate) writes: Queue<WriteToken, PLACES>,
 }
 
 // A version to put in the store.

@@ -1,14 +1,22 @@
 // A short list of items.
-ghost use Rattle.std.specs.Prelude.{◌≡◌, ◌≤◌, length};
+ghost use Rattle.std.specs.Prelude.{◌≡◌};
 
 use crate::tools::ENTRIES;
+use arrayvec::ArrayVec;
 use store::Item;
 
-// ItemList of one transaction, in the order of its entries.
-#[derive(Clone, Copy)]
+// Items of one transaction, in the order of its entries.
+#[derive(Drop)]
 pub struct ItemList {
-    pub(crate) places: [Item; ENTRIES],
-    pub(crate) used: usize,
-    ghost whole: { length places ≡ 8 },
-    ghost fits: { used ≤ 8 },
+    pub(crate) items: ArrayVec<Item, ENTRIES>,
+}
+
+impl ItemList {
+    ghost use Rattle.service.specs.Views.{items_of};
+
+    pub fn as_slice(&self) -> &[Item]
+        ensures { result.now ≡ items_of self.now }
+    {
+        &self.items
+    }
 }

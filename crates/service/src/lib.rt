@@ -12,6 +12,7 @@ mod services;
 mod serving;
 mod settlements;
 mod tokens;
+mod tool_numbers;
 mod tools;
 mod transactions;
 mod views;

@@ -48,10 +48,7 @@ impl<S: Store> Service<S> {
     fn find(&self, call: Call) -> Option<Version>
         ensures { Finds (S.versions self.now.store) (item_of call) result }
     {
-        match call.item() {
-            Some(item) => self.store.get(item),
-            None => None,
-        }
+        self.store.get(call.item()?)
     }
 
     // Any call.
@@ -68,10 +65,7 @@ impl<S: Store> Service<S> {
     fn finish(&mut self, call: Call) -> Result<(), Refusal>
         ensures { AnswersDone call → Makes S.versions self.old call (done result) self.new }
     {
-        match self.call(call) {
-            Ok(_) => Ok(()),
-            Err(refusal) => Err(refusal),
-        }
+        self.call(call).map(|_| ())
     }
 
     // An idle tool opens a transaction without entries.
@@ -85,10 +79,9 @@ impl<S: Store> Service<S> {
     pub fn read(&mut self, tool: u8, item: Item) -> Result<Value, Refusal>
         ensures { Makes S.versions self.old (Read tool item) (valued result) self.new }
     {
-        match self.call(Call::Read { tool, item }) {
-            Ok(Answer::Value(value)) => Ok(value),
-            Ok(Answer::Done | Answer::Stamp(_)) => unreachable(),
-            Err(refusal) => Err(refusal),
+        match self.call(Call::Read { tool, item })? {
+            Answer::Value(value) => Ok(value),
+            Answer::Done | Answer::Stamp(_) => unreachable(),
         }
     }
 
@@ -103,10 +96,9 @@ impl<S: Store> Service<S> {
     pub fn close(&mut self, tool: u8, tick: u64) -> Result<Stamp, Refusal>
         ensures { Makes S.versions self.old (Close tool tick) (stamped result) self.new }
     {
-        match self.call(Call::Close { tool, tick }) {
-            Ok(Answer::Stamp(stamp)) => Ok(stamp),
-            Ok(Answer::Done | Answer::Value(_)) => unreachable(),
-            Err(refusal) => Err(refusal),
+        match self.call(Call::Close { tool, tick })? {
+            Answer::Stamp(stamp) => Ok(stamp),
+            Answer::Done | Answer::Value(_) => unreachable(),
         }
     }
 
@@ -149,17 +141,13 @@ impl<S: Store> Service<S> {
     pub fn peek(&self, item: Item) -> Result<Look, Refusal>
         ensures { result ≡ looked (state_of S.versions self.now) item }
     {
-        match self.store.get(item) {
-            Some(version) => {
-                let (reads, writes) = self.token_counts(item);
-                Ok(Look {
-                    version,
-                    reads,
-                    writes,
-                })
-            }
-            None => Err(Refusal::UnknownItem),
-        }
+        let version = self.store.get(item).ok_or(Refusal::UnknownItem)?;
+        let (reads, writes) = self.token_counts(item);
+        Ok(Look {
+            version,
+            reads,
+            writes,
+        })
     }
 
     // The store, to be looked at.

@@ -7,7 +7,7 @@ ghost use Rattle.std.specs.List.{slice_get};
 ghost use Rattle.queue.specs.Tokens.{ascending};
 ghost use Rattle.queue.specs.Queues.{tokens};
 ghost use Rattle.service.specs.Refusals.{refusal};
-ghost use Rattle.service.specs.Certification.{certification};
+ghost use Rattle.service.specs.Certification.{certification, judged};
 ghost use Rattle.service.specs.Service.{start, largest, read_tells, write_tells, claim, meets, with_read, with_write, without_read, without_write};
 ghost use Rattle.service.specs.Desks.{state, told, change_of, Acts, Serves, Quiet, Lawful};
 
@@ -17,9 +17,11 @@ use crate::certification::{Claim, Standing};
 use crate::desks::{Desk, Effect};
 use crate::refusals::Refusal;
 use crate::settlements::settlement;
-use crate::tokens::{ReadToken, WriteToken};
-use crate::tools::{Entry, Phase, TOOLS, Tool};
+use crate::tokens::Certified;
+use crate::tool_numbers::ToolNumber;
+use crate::tools::{Entry, Phase, Tool};
 use queue::{Queue, Token};
+use std::array;
 use store::{Item, Stamp, Value, Version};
 
 // An answer that leaves the store as it is.
@@ -27,29 +29,16 @@ fn plain(reply: Result<Answer, Refusal>) -> Result<Effect, Refusal>
     ensures told { told result ≡ reply }
     ensures same { change_of result ≡ None }
 {
-    match reply {
-        Ok(answer) => Ok(Effect {
-            answer,
-            change: None,
-        }),
-        Err(refusal) => Err(refusal),
-    }
+    reply.map(|answer| Effect {
+        answer,
+        change: None,
+    })
 }
-
-// The version of an item that the store does not have.
-const NEVER: Version = Version {
-    value: 0,
-    twrite: 0,
-    tread: 0,
-};
 
 fn stamp_of<T: Token + Drop>(token: Option<T>) -> Option<Stamp>
     ensures { result ≡ option_map T.tells.stamp token }
 {
-    match token {
-        Some(token) => Some(token.stamp()),
-        None => None,
-    }
+    token.map(|token| token.stamp())
 }
 
 impl Desk {
@@ -58,100 +47,82 @@ impl Desk {
         ensures { (vs : List Stored) → largest vs / 16 ≡ last → state vs result ≡ start vs }
     {
         Desk {
-            tools: [Tool::idle(last); TOOLS],
-            reads: Queue::new(ReadToken {
-                tool: 0,
-                item: 0,
-                stamp: 0,
-            }),
-            writes: Queue::new(WriteToken {
-                tool: 0,
-                item: 0,
-                stamp: 0,
-                value: 0,
-            }),
+            tools: array::from_fn(|_| Tool::idle(last)),
+            reads: Queue::new(),
+            writes: Queue::new(),
         }
     }
 
-    fn begin(&mut self, t: usize) -> Result<Effect, Refusal>
-        requires { t < 16 }
-        ensures acts { Acts self.old (Begin t) None result self.new }
-        ensures quiet { Quiet (Begin t) None result }
+    fn begin(&mut self, tool: ToolNumber) -> Result<Effect, Refusal>
+        ensures acts { Acts self.old (Begin tool.number) None result self.new }
+        ensures quiet { Quiet (Begin tool.number) None result }
     {
-        self.tools[t].begin();
+        self.tools[tool.index()].begin();
         plain(Ok(Answer::Done))
     }
 
-    fn read(&mut self, t: usize, item: Item, found: Option<Version>) -> Result<Effect, Refusal>
-        requires { t < 16 }
-        ensures acts { Acts self.old (Read t item) found result self.new }
-        ensures quiet { Quiet (Read t item) found result }
+    fn read(
+        &mut self,
+        tool: ToolNumber,
+        item: Item,
+        found: Option<Version>,
+    ) -> Result<Effect, Refusal>
+        ensures acts { Acts self.old (Read tool.number item) found result self.new }
+        ensures quiet { Quiet (Read tool.number item) found result }
     {
-        match found {
-            Some(version) => plain(self.tools[t].read(item, version)),
-            None => Err(Refusal::UnknownItem),
-        }
+        let version = found.ok_or(Refusal::UnknownItem)?;
+        plain(self.tools[tool.index()].read(item, version))
     }
 
     fn write(
         &mut self,
-        t: usize,
+        tool: ToolNumber,
         item: Item,
         value: Value,
         found: Option<Version>,
     ) -> Result<Effect, Refusal>
-        requires { t < 16 }
-        ensures acts { Acts self.old (Write t item value) found result self.new }
-        ensures quiet { Quiet (Write t item value) found result }
+        ensures acts { Acts self.old (Write tool.number item value) found result self.new }
+        ensures quiet { Quiet (Write tool.number item value) found result }
     {
-        match found {
-            Some(_) => plain(self.tools[t].write(item, value)),
-            None => Err(Refusal::UnknownItem),
+        if found.is_none() {
+            return Err(Refusal::UnknownItem);
         }
+        plain(self.tools[tool.index()].write(item, value))
     }
 
-    fn close(&mut self, tool: u8, tick: u64) -> Result<Effect, Refusal>
-        requires { tool < 16 }
-        ensures acts { Acts self.old (Close tool tick) None result self.new }
-        ensures quiet { Quiet (Close tool tick) None result }
+    fn close(&mut self, tool: ToolNumber, tick: u64) -> Result<Effect, Refusal>
+        ensures acts { Acts self.old (Close tool.number tick) None result self.new }
+        ensures quiet { Quiet (Close tool.number tick) None result }
     {
-        plain(self.tools[tool as usize].close(tool, tick))
+        plain(self.tools[tool.index()].close(tool, tick))
     }
 
-    fn commit(&mut self, t: usize) -> Result<Effect, Refusal>
-        requires { t < 16 }
-        ensures acts { Acts self.old (Commit t) None result self.new }
-        ensures quiet { Quiet (Commit t) None result }
+    fn commit(&mut self, tool: ToolNumber) -> Result<Effect, Refusal>
+        ensures acts { Acts self.old (Commit tool.number) None result self.new }
+        ensures quiet { Quiet (Commit tool.number) None result }
     {
-        plain(self.tools[t].commit())
+        plain(self.tools[tool.index()].commit())
     }
 
-    fn abort(&mut self, t: usize) -> Result<Effect, Refusal>
-        requires { t < 16 }
-        ensures acts { Acts self.old (Abort t) None result self.new }
-        ensures quiet { Quiet (Abort t) None result }
+    fn abort(&mut self, tool: ToolNumber) -> Result<Effect, Refusal>
+        ensures acts { Acts self.old (Abort tool.number) None result self.new }
+        ensures quiet { Quiet (Abort tool.number) None result }
     {
-        self.tools[t].abort();
+        self.tools[tool.index()].abort();
         plain(Ok(Answer::Done))
     }
 
-    // The first rule of certification that the entry fails, its item being as it stands.
-    fn rejection(
-        &self,
-        item: Item,
-        stamp: Stamp,
-        entry: Entry,
-        found: Option<Version>,
-    ) -> Option<Refusal>
+    // The first rule of certification that the entry fails rejects it, its item being as it stands.
+    fn check(&self, stamp: Stamp, entry: Entry, found: Option<Version>) -> Result<(), Refusal>
         requires reads { ascending read_tells (tokens self.now.reads) ≡ true }
         requires writes { ascending write_tells (tokens self.now.writes) ≡ true }
-        ensures { (vs : List Stored) → slice_get vs item ≡ found → result ≡ refusal (certification (claim entry stamp) (meets (state vs self.now) item stamp)) }
+        ensures { (vs : List Stored) → slice_get vs entry.item ≡ found → result ≡ judged (refusal (certification (claim entry stamp) (meets (state vs self.now) entry.item stamp))) }
     {
-        let Version { twrite, tread, .. } = found.unwrap_or(NEVER);
+        let Version { twrite, tread, .. } = found.unwrap_or_default();
         let Entry { seen, written, .. } = entry;
-        let writer = stamp_of(self.writes.oldest_above(item, twrite));
-        let reader = stamp_of(self.reads.youngest(item));
-        certification::rejection(
+        let writer = stamp_of(self.writes.oldest_above(entry.item, twrite));
+        let reader = stamp_of(self.reads.youngest(entry.item));
+        certification::check(
             Claim {
                 seen,
                 written,
@@ -167,86 +138,93 @@ impl Desk {
     }
 
     // The tokens of a certified entry; there is a place for each, since no other entry of the tools has it.
-    fn enqueue(&mut self, tool: u8, item: Item, stamp: Stamp, entry: Entry)
+    fn enqueue(&mut self, tool: ToolNumber, stamp: Stamp, entry: Entry)
         requires reads { length (tokens self.old.reads) < 128 }
         requires writes { length (tokens self.old.writes) < 128 }
         ensures tools { self.new.tools ≡ self.old.tools }
-        ensures reads { tokens self.new.reads ≡ with_read tool item stamp entry (tokens self.old.reads) }
-        ensures writes { tokens self.new.writes ≡ with_write tool item stamp entry (tokens self.old.writes) }
+        ensures reads { tokens self.new.reads ≡ with_read tool.number entry.item stamp entry (tokens self.old.reads) }
+        ensures writes { tokens self.new.writes ≡ with_write tool.number entry.item stamp entry (tokens self.old.writes) }
     {
-        let value = entry.value;
+        let tool = tool.number;
+        let item = entry.item;
         if entry.seen.is_some() {
-            let _ = self.reads.insert(ReadToken { tool, item, stamp });
-        }
-        if entry.written {
-            let _ = self.writes.insert(WriteToken {
+            let _ = self.reads.insert(Certified {
                 tool,
                 item,
                 stamp,
-                value,
+                value: (),
+            });
+        }
+        if entry.written {
+            let _ = self.writes.insert(Certified {
+                tool,
+                item,
+                stamp,
+                value: entry.value,
             });
         }
     }
 
     // The tokens of an entry go.
-    fn dequeue(&mut self, item: Item, stamp: Stamp, entry: Entry)
+    fn dequeue(&mut self, stamp: Stamp, entry: Entry)
         ensures tools { self.new.tools ≡ self.old.tools }
-        ensures reads { tokens self.new.reads ≡ without_read item stamp entry (tokens self.old.reads) }
-        ensures writes { tokens self.new.writes ≡ without_write item stamp entry (tokens self.old.writes) }
+        ensures reads { tokens self.new.reads ≡ without_read entry.item stamp entry (tokens self.old.reads) }
+        ensures writes { tokens self.new.writes ≡ without_write entry.item stamp entry (tokens self.old.writes) }
     {
         if entry.seen.is_some() {
-            let _ = self.reads.remove(item, stamp);
+            self.reads.remove(entry.item, stamp);
         }
         if entry.written {
-            let _ = self.writes.remove(item, stamp);
+            self.writes.remove(entry.item, stamp);
         }
     }
 
     // All rules are tested before either token goes into its queue.
-    fn certify(&mut self, tool: u8, item: Item, found: Option<Version>) -> Result<Effect, Refusal>
-        requires tool { tool < 16 }
-        requires lawful { Lawful self.old }
-        ensures acts { Acts self.old (Certify tool item) found result self.new }
-        ensures quiet { Quiet (Certify tool item) found result }
+    fn certify(
+        &mut self,
+        tool: ToolNumber,
+        item: Item,
+        found: Option<Version>,
+    ) -> Result<Effect, Refusal>
+        requires { Lawful self.old }
+        ensures acts { Acts self.old (Certify tool.number item) found result self.new }
+        ensures quiet { Quiet (Certify tool.number item) found result }
     {
-        let t = tool as usize;
-        let own = &self.tools[t];
-        let Some(k) = own.place_of(item) else {
-            return Err(Refusal::NoEntry);
-        };
-        let entry = own.entries[k];
+        let own = &self.tools[tool.index()];
+        let (k, entry) = own.find(item).ok_or(Refusal::NoEntry)?;
         let stamp = own.stamp;
         if entry.stand.is_held() {
             return Err(Refusal::HasToken);
         }
-        if let Some(refusal) = self.rejection(item, stamp, entry, found) {
-            self.tools[t].fail();
+        if let Err(refusal) = self.check(stamp, entry, found) {
+            self.tools[tool.index()].fail();
             return Err(refusal);
         }
-        self.enqueue(tool, item, stamp, entry);
-        self.tools[t].hold(k);
+        self.enqueue(tool, stamp, entry);
+        self.tools[tool.index()].hold(k);
         plain(Ok(Answer::Done))
     }
 
     // Takes the entry's tokens out; a committed entry changes its item's version.
-    fn settle(&mut self, t: usize, item: Item, found: Option<Version>) -> Result<Effect, Refusal>
-        requires { t < 16 }
-        ensures acts { Acts self.old (Settle t item) found result self.new }
-        ensures quiet { Quiet (Settle t item) found result }
+    fn settle(
+        &mut self,
+        tool: ToolNumber,
+        item: Item,
+        found: Option<Version>,
+    ) -> Result<Effect, Refusal>
+        ensures acts { Acts self.old (Settle tool.number item) found result self.new }
+        ensures quiet { Quiet (Settle tool.number item) found result }
     {
-        let own = &self.tools[t];
-        let Some(k) = own.place_of(item) else {
-            return Err(Refusal::NoEntry);
-        };
-        let entry = own.entries[k];
+        let own = &self.tools[tool.index()];
+        let (k, entry) = own.find(item).ok_or(Refusal::NoEntry)?;
         let stamp = own.stamp;
         let phase = own.phase;
         if !entry.stand.is_held() {
             return Err(Refusal::NoToken);
         }
-        let change = settlement(phase, item, stamp, entry, found);
-        self.dequeue(item, stamp, entry);
-        self.tools[t].settle(k);
+        let change = settlement(phase, stamp, entry, found);
+        self.dequeue(stamp, entry);
+        self.tools[tool.index()].settle(k);
         Ok(Effect {
             answer: Answer::Done,
             change,
@@ -259,23 +237,19 @@ impl Desk {
         ensures serves { Serves self.old call found result self.new }
         ensures quiet { Quiet call found result }
     {
-        let tool = call.tool();
-        let t = tool as usize;
-        if t >= TOOLS {
-            return Err(Refusal::UnknownTool);
-        }
-        match (self.tools[t].phase, call) {
-            (Phase::Idle, Call::Begin { .. }) => self.begin(t),
-            (Phase::Open, Call::Read { item, .. }) => self.read(t, item, found),
-            (Phase::Open, Call::Write { item, value, .. }) => self.write(t, item, value, found),
+        let tool = ToolNumber::try_from(call.tool())?;
+        match (self.tools[tool.index()].phase, call) {
+            (Phase::Idle, Call::Begin { .. }) => self.begin(tool),
+            (Phase::Open, Call::Read { item, .. }) => self.read(tool, item, found),
+            (Phase::Open, Call::Write { item, value, .. }) => self.write(tool, item, value, found),
             (Phase::Open, Call::Close { tick, .. }) => self.close(tool, tick),
-            (Phase::Open, Call::Abort { .. }) => self.abort(t),
+            (Phase::Open, Call::Abort { .. }) => self.abort(tool),
             (Phase::Closed, Call::Certify { item, .. }) => self.certify(tool, item, found),
-            (Phase::Closed, Call::Commit { .. }) => self.commit(t),
-            (Phase::Closed, Call::Abort { .. }) => self.abort(t),
-            (Phase::Failed, Call::Abort { .. }) => self.abort(t),
-            (Phase::Committed, Call::Settle { item, .. }) => self.settle(t, item, found),
-            (Phase::Aborting, Call::Settle { item, .. }) => self.settle(t, item, found),
+            (Phase::Closed, Call::Commit { .. }) => self.commit(tool),
+            (Phase::Closed, Call::Abort { .. }) => self.abort(tool),
+            (Phase::Failed, Call::Abort { .. }) => self.abort(tool),
+            (Phase::Committed, Call::Settle { item, .. }) => self.settle(tool, item, found),
+            (Phase::Aborting, Call::Settle { item, .. }) => self.settle(tool, item, found),
             _ => Err(Refusal::WrongState),
         }
     }

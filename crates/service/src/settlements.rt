@@ -9,7 +9,7 @@ ghost use Rattle.service.specs.Desks.{changed};
 
 use crate::desks::Change;
 use crate::tools::{Entry, Phase};
-use store::{Item, Stamp, Version};
+use store::{Stamp, Version};
 
 fn settled(entry: Entry, stamp: Stamp, before: Version) -> Version
     ensures { result ≡ settled_version entry stamp before }
@@ -27,19 +27,14 @@ fn settled(entry: Entry, stamp: Stamp, before: Version) -> Version
 }
 
 // The version to put for an entry of a committed transaction, if it is another than the one found.
-fn committed(item: Item, stamp: Stamp, entry: Entry, found: Option<Version>) -> Option<Change>
-    ensures value { (vs : List Stored) → slice_get vs item ≡ found → changed result vs ≡ slice_set vs item (settled_version entry stamp (version vs item)) }
-    ensures quiet { (vs : List Stored) → slice_get vs item ≡ found → changed result vs ≡ vs → result ≡ None }
+fn committed(stamp: Stamp, entry: Entry, found: Option<Version>) -> Option<Change>
+    ensures value { (vs : List Stored) → slice_get vs entry.item ≡ found → changed result vs ≡ slice_set vs entry.item (settled_version entry stamp (version vs entry.item)) }
+    ensures quiet { (vs : List Stored) → slice_get vs entry.item ≡ found → changed result vs ≡ vs → result ≡ None }
 {
-    let Some(before) = found else {
-        return None;
-    };
+    let before = found?;
     let after = settled(entry, stamp, before);
-    if after == before {
-        return None;
-    }
-    Some(Change {
-        item,
+    (after != before).then_some(Change {
+        item: entry.item,
         version: after,
     })
 }
@@ -47,16 +42,16 @@ fn committed(item: Item, stamp: Stamp, entry: Entry, found: Option<Version>) -> 
 // What settling an entry puts: nothing unless its transaction is committed.
 pub(crate) fn settlement(
     phase: Phase,
-    item: Item,
     stamp: Stamp,
     entry: Entry,
     found: Option<Version>,
 ) -> Option<Change>
-    ensures value { (vs : List Stored) → slice_get vs item ≡ found → changed result vs ≡ (if is phase Committed then slice_set vs item (settled_version entry stamp (version vs item)) else vs) }
-    ensures quiet { (vs : List Stored) → slice_get vs item ≡ found → changed result vs ≡ vs → result ≡ None }
+    ensures value { (vs : List Stored) → slice_get vs entry.item ≡ found → changed result vs ≡ (if is phase Committed then slice_set vs entry.item (settled_version entry stamp (version vs entry.item)) else vs) }
+    ensures quiet { (vs : List Stored) → slice_get vs entry.item ≡ found → changed result vs ≡ vs → result ≡ None }
 {
-    match phase {
-        Phase::Committed => committed(item, stamp, entry, found),
-        Phase::Idle | Phase::Open | Phase::Closed | Phase::Failed | Phase::Aborting => None,
+    if phase == Phase::Committed {
+        committed(stamp, entry, found)
+    } else {
+        None
     }
 }

@@ -1,29 +1,25 @@
 // The two kinds of token.
-ghost use Rattle.service.specs.declared.tokens.ReadToken.{ReadToken};
-ghost use Rattle.service.specs.declared.tokens.WriteToken.{WriteToken};
-
-use queue::{PLACES, Queued, Token, slices};
+use queue::Token;
 use store::{Item, Stamp, Value};
 
-// A certified read.
-#[derive(Clone, Copy)]
-pub struct ReadToken {
+// A certified use of an item, with the value that it would leave.
+#[derive(Clone, Copy, Default)]
+pub struct Certified<V> {
     pub tool: u8,
     pub item: Item,
     pub stamp: Stamp,
+    pub value: V,
 }
 
-// A certified write, with the value that it would leave.
-#[derive(Clone, Copy)]
-pub struct WriteToken {
-    pub tool: u8,
-    pub item: Item,
-    pub stamp: Stamp,
-    pub value: Value,
-}
+// A read leaves nothing.
+pub type ReadToken = Certified<()>;
 
-impl Token for ReadToken {
-    ghost tells = { record { item = λ (k : ReadToken). k.item; stamp = λ (k : ReadToken). k.stamp } };
+pub type WriteToken = Certified<Value>;
+
+impl<V: Copy + Default> Token for Certified<V> {
+    ghost use Rattle.service.specs.Tokens.{certified_tells};
+
+    ghost tells = { certified_tells };
 
     fn item(&self) -> Item {
         self.item
@@ -34,44 +30,14 @@ impl Token for ReadToken {
     }
 }
 
-impl Token for WriteToken {
-    ghost tells = { record { item = λ (k : WriteToken). k.item; stamp = λ (k : WriteToken). k.stamp } };
+impl<V> Certified<V> {
+    ghost use Rattle.std.specs.Prelude.{◌≡◌};
+    ghost use Rattle.service.specs.Tokens.{is_of};
 
-    fn item(&self) -> Item {
-        self.item
-    }
-
-    fn stamp(&self) -> Stamp {
-        self.stamp
-    }
-}
-
-impl Queued for ReadToken {
-    fn insert_into(places: &mut [ReadToken; PLACES], used: usize, token: ReadToken) -> bool {
-        slices::insert(&mut places[..], used, token)
-    }
-
-    fn remove_from(
-        places: &mut [ReadToken; PLACES],
-        used: usize,
-        item: Item,
-        stamp: Stamp,
-    ) -> bool {
-        slices::remove(&mut places[..], used, item, stamp)
-    }
-}
-
-impl Queued for WriteToken {
-    fn insert_into(places: &mut [WriteToken; PLACES], used: usize, token: WriteToken) -> bool {
-        slices::insert(&mut places[..], used, token)
-    }
-
-    fn remove_from(
-        places: &mut [WriteToken; PLACES],
-        used: usize,
-        item: Item,
-        stamp: Stamp,
-    ) -> bool {
-        slices::remove(&mut places[..], used, item, stamp)
+    // Whether the tool had it certified under that stamp.
+    pub(crate) fn is_of(&self, tool: u8, stamp: Stamp) -> bool
+        ensures { result ≡ is_of tool stamp self.now }
+    {
+        self.tool == tool && self.stamp == stamp
     }
 }

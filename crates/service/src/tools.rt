@@ -1,12 +1,13 @@
 // One tool and its transaction.
-ghost use Rattle.std.specs.Prelude.{◌≡◌, ◌≤◌, length};
-
+use arrayvec::ArrayVec;
 use store::{Item, Stamp, Value};
 
 // The tools that a service serves.
 pub const TOOLS: usize = 16;
 // The items that one transaction may use.
 pub const ENTRIES: usize = 8;
+// The tokens that a queue may hold: one for each entry of each tool.
+pub const PLACES: usize = TOOLS * ENTRIES;
 // The largest counter that a stamp may have, and the first tick that is too large.
 pub const LAST_COUNTER: u64 = 1 << 40;
 
@@ -22,8 +23,9 @@ pub enum Phase {
 }
 
 // Whether an entry has a token in the queues.
-#[derive(Clone, Copy, PartialEq, Eq, Debug)]
+#[derive(Clone, Copy, PartialEq, Eq, Debug, Default)]
 pub enum Stand {
+    #[default]
     Bare,
     Held,
     Settled,
@@ -31,7 +33,7 @@ pub enum Stand {
 
 // What a transaction did with one item: the value it would leave, the `twrite` of the version
 // that it read from the store, and whether it wrote.
-#[derive(Clone, Copy)]
+#[derive(Clone, Copy, Default)]
 pub struct Entry {
     pub item: Item,
     pub value: Value,
@@ -41,13 +43,10 @@ pub struct Entry {
 }
 
 // A tool: its last counter, the stamp of its closed transaction, and the entries in use.
-#[derive(Clone, Copy)]
+#[derive(Drop)]
 pub struct Tool {
     pub phase: Phase,
     pub last: u64,
     pub stamp: Stamp,
-    pub used: usize,
-    pub entries: [Entry; ENTRIES],
-    ghost whole: { length entries ≡ 8 },
-    ghost fits: { used ≤ 8 },
+    pub entries: ArrayVec<Entry, ENTRIES>,
 }

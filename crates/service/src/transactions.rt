@@ -1,33 +1,26 @@
 // What a call does to its tool's own record.
-ghost use Rattle.std.specs.Prelude.{◌≡◌, ℕ, ◌+◌, ◌*◌, ◌<◌, [], ◌∷◌, ◌++◌, length, IfSome, Some};
+ghost use Rattle.std.specs.Prelude.{◌≡◌, ℕ, ◌+◌, ◌*◌, ◌<◌, [], ◌∷◌, ◌++◌, length, is_ok, OnOk, IfErr, IfSome, Some, nat_lt};
 ghost use Rattle.std.specs.List.{slice_get};
+ghost use Rattle.std.specs.Option.{option_map};
 ghost use Rattle.service.specs.declared.tools.Phase.TheVariants.{Failed};
 ghost use Rattle.service.specs.declared.calls.Call.TheVariants.{Begin, Read, Write, Close, Certify, Commit, Abort, Settle};
-ghost use Rattle.service.specs.Entries.{is_held, index_from, any_held, all_held};
+ghost use Rattle.service.specs.declared.refusals.Refusal.TheVariants.{TooManyEntries};
+ghost use Rattle.service.specs.Entries.{is_held, find, index_from, any_held, all_held};
 ghost use Rattle.service.specs.Service.{State, next_seat, Replies, fresh, entered, phased, unless_held};
 ghost use Rattle.service.specs.Desks.{seat_of};
 
 use crate::calls::Answer;
 use crate::refusals::Refusal;
-use crate::tools::{ENTRIES, Entry, LAST_COUNTER, Phase, Stand, TOOLS, Tool};
+use crate::tool_numbers::ToolNumber;
+use crate::tools::{Entry, LAST_COUNTER, Phase, Stand, TOOLS, Tool};
+use arrayvec::ArrayVec;
 use store::{Item, Value, Version};
-
-const BLANK: Entry = Entry {
-    item: 0,
-    value: 0,
-    seen: None,
-    written: false,
-    stand: Stand::Bare,
-};
 
 impl Stand {
     pub(crate) fn is_held(self) -> bool
         ensures { result ≡ is_held self }
     {
-        match self {
-            Stand::Held => true,
-            Stand::Bare | Stand::Settled => false,
-        }
+        matches!(self, Stand::Held)
     }
 }
 
@@ -40,70 +33,63 @@ impl Tool {
             phase: Phase::Idle,
             last,
             stamp: 0,
-            used: 0,
-            entries: [BLANK; ENTRIES],
+            entries: ArrayVec::new(),
         }
     }
 
-    // The place of the item's entry.
-    pub(crate) fn place_of(&self, item: Item) -> Option<usize>
+    fn place_of(&self, item: Item) -> Option<usize>
         ensures value { result ≡ index_from 0 item (seat_of self.now).entries }
-        ensures within { IfSome result (λ k. k < self.now.used) }
+        ensures within { IfSome result (λ k. k < length (seat_of self.now).entries) }
     {
-        for k in 0..self.used {
-            if self.entries[k].item == item {
-                return Some(k);
-            }
-        }
-        None
+        self.entries.iter().position(|entry| item == entry.item)
+    }
+
+    // The item's entry and its place.
+    pub(crate) fn find(&self, item: Item) -> Option<(usize, Entry)>
+        ensures place { option_map (λ f. f.0) result ≡ index_from 0 item (seat_of self.now).entries }
+        ensures within { IfSome result (λ f. f.0 < length (seat_of self.now).entries) }
+        ensures entry { option_map (λ f. f.1) result ≡ find item (seat_of self.now).entries }
+        ensures own { IfSome result (λ f. f.1.item ≡ item) }
+    {
+        let k = self.place_of(item)?;
+        Some((k, self.entries[k]))
     }
 
     pub(crate) fn all_held(&self) -> bool
         ensures { result ≡ all_held (seat_of self.now).entries }
     {
-        for k in 0..self.used {
-            if !self.entries[k].stand.is_held() {
-                return false;
-            }
-        }
-        true
+        self.entries.iter().all(|entry| entry.stand.is_held())
     }
 
     pub(crate) fn any_held(&self) -> bool
         ensures { result ≡ any_held (seat_of self.now).entries }
     {
-        for k in 0..self.used {
-            if self.entries[k].stand.is_held() {
-                return true;
-            }
-        }
-        false
+        self.entries.iter().any(|entry| entry.stand.is_held())
     }
 
     pub(crate) fn begin(&mut self)
         ensures { (s : State) (t : ℕ) → seat_of self.new ≡ next_seat s (seat_of self.old) (Begin t) }
     {
         self.phase = Phase::Open;
-        self.used = 0;
+        self.entries.clear();
     }
 
-    // One entry more, behind the others.
-    fn push(&mut self, entry: Entry)
-        requires { self.old.used < 8 }
-        ensures { seat_of self.new ≡ entered (seat_of self.old) ((seat_of self.old).entries ++ entry ∷ []) }
+    // One entry more, behind the others, where there is room.
+    fn push(&mut self, entry: Entry) -> Result<(), Refusal>
+        ensures room { is_ok result ≡ nat_lt (length (seat_of self.old).entries) 8 }
+        ensures pushed { OnOk result (seat_of self.new ≡ entered (seat_of self.old) ((seat_of self.old).entries ++ entry ∷ [])) }
+        ensures full { IfErr result (λ r. (r ≡ TooManyEntries) × (self.new ≡ self.old)) }
     {
-        self.entries[self.used] = entry;
-        self.used += 1;
+        self.entries
+            .try_push(entry)
+            .map_err(|_| Refusal::TooManyEntries)
     }
 
     pub(crate) fn read(&mut self, item: Item, version: Version) -> Result<Answer, Refusal>
         ensures { (s : State) (t : ℕ) → slice_get s.versions item ≡ Some version → Replies s (seat_of self.old) (Read t item) result (seat_of self.new) }
     {
-        if let Some(k) = self.place_of(item) {
-            return Ok(Answer::Value(self.entries[k].value));
-        }
-        if self.used == ENTRIES {
-            return Err(Refusal::TooManyEntries);
+        if let Some((_, entry)) = self.find(item) {
+            return Ok(Answer::Value(entry.value));
         }
         let Version { value, twrite, .. } = version;
         self.push(Entry {
@@ -112,21 +98,20 @@ impl Tool {
             seen: Some(twrite),
             written: false,
             stand: Stand::Bare,
-        });
+        })?;
         Ok(Answer::Value(value))
     }
 
     pub(crate) fn write(&mut self, item: Item, value: Value) -> Result<Answer, Refusal>
         ensures { (s : State) (t : ℕ) → item < length s.versions → Replies s (seat_of self.old) (Write t item value) result (seat_of self.new) }
     {
-        if let Some(k) = self.place_of(item) {
-            let entry = &mut self.entries[k];
-            entry.value = value;
-            entry.written = true;
+        if let Some((k, entry)) = self.find(item) {
+            self.entries[k] = Entry {
+                value,
+                written: true,
+                ..entry
+            };
             return Ok(Answer::Done);
-        }
-        if self.used == ENTRIES {
-            return Err(Refusal::TooManyEntries);
         }
         self.push(Entry {
             item,
@@ -134,14 +119,13 @@ impl Tool {
             seen: None,
             written: true,
             stand: Stand::Bare,
-        });
+        })?;
         Ok(Answer::Done)
     }
 
     // The stamp is the next counter above the tool's last and above the tick, with the tool in its low digit.
-    pub(crate) fn close(&mut self, tool: u8, tick: u64) -> Result<Answer, Refusal>
-        requires { tool < 16 }
-        ensures { (s : State) → Replies s (seat_of self.old) (Close tool tick) result (seat_of self.new) }
+    pub(crate) fn close(&mut self, tool: ToolNumber, tick: u64) -> Result<Answer, Refusal>
+        ensures { (s : State) → Replies s (seat_of self.old) (Close tool.number tick) result (seat_of self.new) }
     {
         if tick >= LAST_COUNTER {
             return Err(Refusal::TickTooLarge);
@@ -151,7 +135,7 @@ impl Tool {
             return Err(Refusal::CounterSpent);
         }
         let counter = before + 1;
-        let stamp = counter * TOOLS as u64 + u64::from(tool);
+        let stamp = counter * TOOLS as u64 + u64::from(tool.number);
         self.phase = Phase::Closed;
         self.last = counter;
         self.stamp = stamp;
@@ -164,11 +148,11 @@ impl Tool {
         if !self.all_held() {
             return Err(Refusal::NotCertified);
         }
-        if self.used == 0 {
-            self.phase = Phase::Idle;
+        self.phase = if self.entries.is_empty() {
+            Phase::Idle
         } else {
-            self.phase = Phase::Committed;
-        }
+            Phase::Committed
+        };
         Ok(Answer::Done)
     }
 
@@ -178,7 +162,7 @@ impl Tool {
     {
         if !self.any_held() {
             self.phase = Phase::Idle;
-            self.used = 0;
+            self.entries.clear();
         }
     }
 
@@ -197,7 +181,7 @@ impl Tool {
 
     // The entry at place k now has a token.
     pub(crate) fn hold(&mut self, k: usize)
-        requires { k < self.old.used }
+        requires { k < length (seat_of self.old).entries }
         ensures { (i : ℕ) (s : State) (t : ℕ) → index_from 0 i (seat_of self.old).entries ≡ Some k → seat_of self.new ≡ next_seat s (seat_of self.old) (Certify t i) }
     {
         self.entries[k].stand = Stand::Held;
@@ -205,7 +189,7 @@ impl Tool {
 
     // The entry at place k has no token any more.
     pub(crate) fn settle(&mut self, k: usize)
-        requires { k < self.old.used }
+        requires { k < length (seat_of self.old).entries }
         ensures { (i : ℕ) (s : State) (t : ℕ) → index_from 0 i (seat_of self.old).entries ≡ Some k → seat_of self.new ≡ next_seat s (seat_of self.old) (Settle t i) }
     {
         self.entries[k].stand = Stand::Settled;

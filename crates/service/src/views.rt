@@ -1,169 +1,91 @@
 // What code that holds a transaction may see of its tool.
-ghost use Rattle.std.specs.Prelude.{◌≡◌, ℕ, ◌+◌, ◌<◌, Bool, ◌&&◌, List, [], ◌∷◌, ◌++◌, Some, None, ◌==◌};
-ghost use Rattle.service.specs.declared.tools.Phase.TheVariants.{Closed, Failed};
+ghost use Rattle.std.specs.Prelude.{◌≡◌, ℕ, ◌+◌, ◌<◌, Bool, false, ◌&&◌, List, MatchOption, ◌==◌};
+ghost use Rattle.service.specs.declared.tools.Phase.TheVariants.{Idle, Closed, Failed};
+ghost use Rattle.service.specs.declared.tools.Stand.{Stand as Standing};
 ghost use Rattle.store.specs.declared.Version.{Version as Stored};
 ghost use Rattle.service.specs.Service.{seat, is, fresh};
 ghost use Rattle.service.specs.Desks.{seat_of, state};
 ghost use Rattle.service.specs.Services.{state_of};
-ghost use Rattle.service.specs.Views.{is_under, items_of, stands, items_that, held_items, bare_items, any_of, read_of, write_of, tokens_stand};
+ghost use Rattle.service.specs.Tokens.{is_of};
+ghost use Rattle.service.specs.Views.{is_under, items_of, items_where, held_items, bare_items, any_of, tokens_stand};
 
 use crate::desks::Desk;
 use crate::item_list::ItemList;
 use crate::services::Service;
-use crate::tokens::{ReadToken, WriteToken};
-use crate::tools::{ENTRIES, Entry, Phase, Tool};
+use crate::tokens::Certified;
+use crate::tools::{Phase, Stand, Tool};
+use arrayvec::ArrayVec;
 use store::{Item, Stamp, Store};
 
-impl ItemList {
-    fn none() -> ItemList
-        ensures none { items_of result ≡ [] }
-        ensures used { result.used ≡ 0 }
-    {
-        ItemList {
-            places: [0; ENTRIES],
-            used: 0,
-        }
-    }
-
-    fn push(&mut self, item: Item)
-        requires { self.old.used < 8 }
-        ensures pushed { items_of self.new ≡ items_of self.old ++ item ∷ [] }
-        ensures used { self.new.used ≡ self.old.used + 1 }
-    {
-        self.places[self.used] = item;
-        self.used += 1;
-    }
-
-    pub fn as_slice(&self) -> &[Item]
-        ensures { result.now ≡ items_of self.now }
-    {
-        let places = &self.places[..];
-        &places[0..self.used]
-    }
-}
-
-impl Entry {
-    // Whether it holds a token, or whether it does not.
-    fn stands(self, held: bool) -> bool
-        ensures { result ≡ stands held self }
-    {
-        if held {
-            self.stand.is_held()
-        } else {
-            !self.stand.is_held()
-        }
-    }
-}
-
 impl Tool {
-    fn is_closed(&self, stamp: Stamp) -> bool
-        ensures { result ≡ (is self.now.phase Closed && self.now.stamp == stamp) }
+    fn is_under(&self, phase: Phase, stamp: Stamp) -> bool
+        ensures { result ≡ (is self.now.phase phase && self.now.stamp == stamp) }
     {
-        match self.phase {
-            Phase::Closed => self.stamp == stamp,
-            Phase::Idle | Phase::Open | Phase::Failed | Phase::Committed | Phase::Aborting => false,
-        }
+        self.phase == phase && self.stamp == stamp
     }
 
-    fn is_failed(&self, stamp: Stamp) -> bool
-        ensures { result ≡ (is self.now.phase Failed && self.now.stamp == stamp) }
+    // The items of the entries that stand as wanted.
+    fn items<P: Fn(Stand) -> bool>(&self, wanted: P) -> ItemList
+        requires { P.IsAlwaysCallable wanted }
+        ensures { (p : Standing → Bool) → ((a : Standing) (b : Bool) → P.post wanted a b → b ≡ p a) → items_of result ≡ items_where p (seat_of self.now).entries }
     {
-        match self.phase {
-            Phase::Failed => self.stamp == stamp,
-            Phase::Idle | Phase::Open | Phase::Closed | Phase::Committed | Phase::Aborting => false,
-        }
-    }
-
-    // The items whose entries hold a token, or those whose entries do not.
-    fn items(&self, held: bool) -> ItemList
-        ensures { items_of result ≡ items_that held (seat_of self.now).entries }
-    {
-        let mut items = ItemList::none();
-        for k in 0..self.used {
-            let entry = self.entries[k];
-            if entry.stands(held) {
+        let mut items = ArrayVec::new();
+        for entry in self.entries.iter() {
+            if wanted(entry.stand) {
                 items.push(entry.item);
             }
         }
-        items
+        ItemList { items }
     }
 }
 
-// A token that a tool has put in its queue.
-pub(crate) trait Owned {
-    ghost owned: { ℕ → ℕ → Self → Bool };
-
-    fn is_of(&self, tool: u8, stamp: Stamp) -> bool
-        ensures { result ≡ owned tool stamp self.now };
-}
-
-impl Owned for ReadToken {
-    ghost owned = { read_of };
-
-    fn is_of(&self, tool: u8, stamp: Stamp) -> bool {
-        self.tool == tool && self.stamp == stamp
-    }
-}
-
-impl Owned for WriteToken {
-    ghost owned = { write_of };
-
-    fn is_of(&self, tool: u8, stamp: Stamp) -> bool {
-        self.tool == tool && self.stamp == stamp
-    }
-}
-
-fn any_of<T: Owned>(tokens: &[T], tool: u8, stamp: Stamp) -> bool
-    ensures { result ≡ any_of (T.owned tool stamp) tokens.now }
+fn any_of<V>(tokens: &[Certified<V>], tool: u8, stamp: Stamp) -> bool
+    ensures { result ≡ any_of (is_of tool stamp) tokens.now }
 {
-    for token in tokens {
-        if token.is_of(tool, stamp) {
-            return true;
-        }
-    }
-    false
+    tokens.iter().any(|token| token.is_of(tool, stamp))
 }
 
 impl Desk {
     fn tool(&self, tool: u8) -> Option<&Tool>
-        ensures { (vs : List Stored) → elim result [ Some own ↦ seat (state vs self.now) tool ≡ seat_of own.now | None ↦ seat (state vs self.now) tool ≡ fresh 0 ] }
+        ensures { (vs : List Stored) → MatchOption result (seat (state vs self.now) tool ≡ fresh 0) (λ own. seat (state vs self.now) tool ≡ seat_of own.now) }
     {
-        let tools = &self.tools[..];
-        let t = tool as usize;
-        if t >= tools.len() {
-            return None;
-        }
-        Some(&tools[t])
+        self.tools.get(usize::from(tool))
     }
 }
 
 impl<S: Store> Service<S> {
+    // A tool that is not served counts as idle.
+    fn is_under(&self, phase: Phase, tool: u8, stamp: Stamp) -> bool
+        ensures { is Idle phase ≡ false → result ≡ is_under phase (state_of S.versions self.now) tool stamp }
+    {
+        self.desk
+            .tool(tool)
+            .is_some_and(|own| own.is_under(phase, stamp))
+    }
+
     // Whether the tool's transaction is closed under that stamp.
     pub fn is_closed(&self, tool: u8, stamp: Stamp) -> bool
         ensures { result ≡ is_under Closed (state_of S.versions self.now) tool stamp }
     {
-        match self.desk.tool(tool) {
-            Some(own) => own.is_closed(stamp),
-            None => false,
-        }
+        self.is_under(Phase::Closed, tool, stamp)
     }
 
     // Whether the tool's transaction, closed under that stamp, was rejected.
     pub fn is_failed(&self, tool: u8, stamp: Stamp) -> bool
         ensures { result ≡ is_under Failed (state_of S.versions self.now) tool stamp }
     {
-        match self.desk.tool(tool) {
-            Some(own) => own.is_failed(stamp),
-            None => false,
-        }
+        self.is_under(Phase::Failed, tool, stamp)
     }
 
-    fn items(&self, tool: u8, held: bool) -> ItemList
-        ensures { items_of result ≡ items_that held (seat (state_of S.versions self.now) tool).entries }
+    fn items<P: Fn(Stand) -> bool + Drop>(&self, tool: u8, wanted: P) -> ItemList
+        requires { P.IsAlwaysCallable wanted }
+        ensures { (p : Standing → Bool) → ((a : Standing) (b : Bool) → P.post wanted a b → b ≡ p a) → items_of result ≡ items_where p (seat (state_of S.versions self.now) tool).entries }
     {
         match self.desk.tool(tool) {
-            Some(own) => own.items(held),
-            None => ItemList::none(),
+            Some(own) => own.items(wanted),
+            None => ItemList {
+                items: ArrayVec::new(),
+            },
         }
     }
 
@@ -171,14 +93,14 @@ impl<S: Store> Service<S> {
     pub fn held_items(&self, tool: u8) -> ItemList
         ensures { items_of result ≡ held_items (state_of S.versions self.now) tool }
     {
-        self.items(tool, true)
+        self.items(tool, |stand| stand.is_held())
     }
 
     // The items of the tool's entries that hold none.
     pub fn bare_items(&self, tool: u8) -> ItemList
         ensures { items_of result ≡ bare_items (state_of S.versions self.now) tool }
     {
-        self.items(tool, false)
+        self.items(tool, |stand| !stand.is_held())
     }
 
     // Whether a token of that tool and stamp stands in a queue.

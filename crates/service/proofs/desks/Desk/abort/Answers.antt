@@ -1,4 +1,4 @@
-use Rattle.std.proofs.Common.{Ok, sym, refl, ap, arith}
+use Rattle.std.proofs.Common.{Ok, sym, ap, arith}
 use Rattle.service.specs.declared.calls.Answer.TheVariants.{Done}
 use Rattle.service.specs.declared.calls.Call.TheVariants.{Abort}
 use Rattle.service.specs.Service.{Seat}
@@ -6,11 +6,8 @@ use Rattle.service.specs.Desks.{state}
 use Rattle.service.proofs.Acts.{acts_plain}
 use Rattle.service.proofs.desks.Desk.abort.Goals as goal
 
-pub returns : goal.returns
-returns c = record {
-  acts = λ vs f.
-      acts_plain vs c.args.self.now c.args.t c.index-self-t.result (omega arith) (Abort c.args.t) refl tt (Ok Done) c.plain.result
-      c.plain.ensures.told c.plain.ensures.same c.abort.new.self
-      (ap (λ (x : Seat). (Ok Done, x)) (sym (c.abort.ensures (state vs c.args.self.now) c.args.t)));
-  quiet = λ _ _ _. c.plain.ensures.same;
-}
+pub returns-clause-acts : goal.returns-clause-acts
+returns-clause-acts c vs f =
+    acts_plain vs c.args.self.now c.index.result c.index-self-index.result (omega arith) (Abort c.args.tool.number) (sym c.index.ensures) tt (Ok Done) c.plain.result
+    c.plain.ensures.told c.plain.ensures.same c.abort.new.self
+    (ap (λ (x : Seat). (Ok Done, x)) (sym (c.abort.ensures (state vs c.args.self.now) c.args.tool.number)))

@@ -1,7 +1,7 @@
 use Rattle.service.proofs.services.Service.items.Goals as goal
 
 pub returns-in-Some : goal.returns-in-Some
-returns-in-Some g c = rw (c.in-Some.ensures (g.S.Store.versions c.args.self.now.store)) c.items.ensures
+returns-in-Some g c p h = rw (c.in-Some.ensures (g.S.Store.versions c.args.self.now.store)) (c.items.ensures p h)
 
 pub returns-in-None : goal.returns-in-None
-returns-in-None g c = rw (c.in-None.ensures (g.S.Store.versions c.args.self.now.store)) c.none.ensures.none
+returns-in-None g c p h = rw (c.in-None.ensures (g.S.Store.versions c.args.self.now.store)) c.new.ensures

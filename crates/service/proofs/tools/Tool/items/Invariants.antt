@@ -1,8 +1,10 @@
-use Rattle.std.proofs.Common.{◌≡◌, ◌≤◌, ◌++◌, take, drop}
-use Rattle.service.specs.Views.{items_of, items_that}
+use Rattle.std.proofs.Common.{◌≡◌, ◌≤◌, Bool, length, take}
+use Rattle.service.specs.declared.tools.Stand.{Stand}
+use Rattle.service.specs.Views.{items_where}
 use Rattle.service.proofs.tools.Tool.items.Given as goal
 
-abbrev pub invariant-loop-k : goal.invariant-loop-k
-invariant-loop-k l =
-    (l.items.used ≤ l.k)
-    × (items_of l.items ++ items_that l.held (drop l.k (take l.self.used l.self.entries)) ≡ items_that l.held (take l.self.used l.self.entries))
+abbrev pub invariant-loop-entry : goal.invariant-loop-entry
+invariant-loop-entry g l = record {
+  room : length l.items.items ≤ l.entry-index;
+  so_far : (p : Stand → Bool) → ((a : Stand) (b : Bool) → goal.P-post g l.wanted a b → b ≡ p a) → l.items.items ≡ items_where p (take l.entry-index l.entry-items);
+}

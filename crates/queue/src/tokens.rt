@@ -1,0 +1,15 @@
+ghost use Rattle.std.specs.Prelude.{◌≡◌};
+ghost use Rattle.queue.specs.Tokens.{Tells};
+
+use store::{Item, Stamp};
+
+// A certified read or write that waits for its settlement. An unused place of a queue holds the default.
+pub trait Token: Copy + Default {
+    ghost tells: { Tells Self };
+
+    fn item(&self) -> Item
+        ensures { result ≡ tells.item self.now };
+
+    fn stamp(&self) -> Stamp
+        ensures { result ≡ tells.stamp self.now };
+}
