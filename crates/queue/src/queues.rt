@@ -12,16 +12,8 @@ pub struct Queue<T, const PLACES: usize> {
 
 impl<T: Token, const PLACES: usize> Queue<T, PLACES> {
     ghost use Rattle.arrayvec.specs.CapacityError.{error_element};
-    ghost use Rattle.queue.specs.Tokens.{insert, is_at, has, remove, count, oldest, youngest};
+    ghost use Rattle.queue.specs.Tokens.{insert, is_at, count, oldest, youngest};
     ghost use Rattle.queue.specs.Queues.{tokens};
-
-    pub fn new() -> Self
-        ensures { tokens result ≡ [] }
-    {
-        Queue {
-            tokens: ArrayVec::new(),
-        }
-    }
 
     pub fn len(&self) -> usize
         ensures { result ≡ length (tokens self.now) }
@@ -89,6 +81,20 @@ impl<T: Token, const PLACES: usize> Queue<T, PLACES> {
         self.tokens
             .iter()
             .position(|token| token.item() == item && token.stamp() == stamp)
+    }
+}
+
+// An unused place holds the default.
+impl<T: Token + Default, const PLACES: usize> Queue<T, PLACES> {
+    ghost use Rattle.queue.specs.Tokens.{is_at, has, remove};
+    ghost use Rattle.queue.specs.Queues.{tokens};
+
+    pub fn new() -> Self
+        ensures { tokens result ≡ [] }
+    {
+        Queue {
+            tokens: ArrayVec::new(),
+        }
     }
 
     // Takes out the first token with that item and stamp.

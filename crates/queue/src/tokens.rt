@@ -3,8 +3,8 @@ ghost use Rattle.queue.specs.Tokens.{Tells};
 
 use store::{Item, Stamp};
 
-// A certified read or write that waits for its settlement. An unused place of a queue holds the default.
-pub trait Token: Copy + Default {
+// A certified read or write that waits for its settlement.
+pub trait Token: Copy {
     ghost tells: { Tells Self };
 
     fn item(&self) -> Item
