@@ -10,10 +10,8 @@ shrunk c =
     shrinks c.args.self.now.records.area.bytes.now c.compact.new.self.area.bytes.now c.args.self.now.count c.args.self.now.records.used c.compact.new.self.used
     (good_from _ _ held.0) held.1 c.compact.ensures.bytes c.compact.ensures.used
 
-pub invariant_of-self : goal.invariant_of-self
-invariant_of-self c =
-    let done = shrunk c in
-    record { few = c.args.self.now.few; good = λ _. (from_good _ _ done.good, done.counts) }
+pub invariant_of-self-clause-good : goal.invariant_of-self-clause-good
+invariant_of-self-clause-good c = λ _. (from_good _ _ (shrunk c).good, (shrunk c).counts)
 
 pub returns-then-is_full-clause-bytes : goal.returns-then-is_full-clause-bytes
 returns-then-is_full-clause-bytes c =

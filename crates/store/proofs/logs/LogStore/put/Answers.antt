@@ -14,10 +14,8 @@ grown c =
     (good_from _ _ held.0) held.1 (omega arith) c.make_room.ensures.room
     (record { value = omega arith; twrite = omega arith; tread = omega arith }) c.push.ensures.bytes
 
-pub invariant_of-self : goal.invariant_of-self
-invariant_of-self c =
-    let done = grown c in
-    record { few = c.make_room.new.self.few; good = λ _. (from_good _ _ done.good, c.push.ensures.used ∙ done.counts) }
+pub invariant_of-self-clause-good : goal.invariant_of-self-clause-good
+invariant_of-self-clause-good c = λ _. (from_good _ _ (grown c).good, c.push.ensures.used ∙ (grown c).counts)
 
 pub returns-then-item-self-clause-versions : goal.returns-then-item-self-clause-versions
 returns-then-item-self-clause-versions c =

@@ -56,10 +56,8 @@ left c =
 pub index-self-requires-clause-sound : goal.index-self-requires-clause-sound
 index-self-requires-clause-sound c = (left c).sounds
 
-pub invariant_of-self : goal.invariant_of-self
-invariant_of-self c =
-    let done = left c.before in
-    record { fits = done.fits; short = omega arith; sound = done.sounds; wide = c.index-self.ensures.wide; index = c.index-self.ensures.places }
+pub invariant_of-self-clause-sound : goal.invariant_of-self-clause-sound
+invariant_of-self-clause-sound c = (left c.before).sounds
 
 pub returns-clause-bytes : goal.returns-clause-bytes
 returns-clause-bytes c = (left c.before.before).bytes
