@@ -26,6 +26,7 @@ fn put_change<S: Store>(store: &mut S, change: Option<Change>)
     }
 }
 
+// The largest stamp of a read or a write in the store.
 fn largest_stamp<S: Store>(store: &S) -> u64
     ensures { result ≡ largest_found (S.versions store.now) }
 {
