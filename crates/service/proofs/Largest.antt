@@ -1,24 +1,23 @@
--- The largest stamp of a store, item by item.
-use Rattle.std.proofs.Common.{◌≡◌, ℕ, ◌+◌, ◌/◌, ◌≤◌, max, List, length, drop, Some, ap, ◌∙◌, arith}
+-- The largest stamp of a store, as its items are looked up in turn.
+use Rattle.std.proofs.Common.{◌≡◌, ℕ, zero, suc, ◌+◌, max, List, [], ◌∷◌, map, length, drop, fold, filter_map, sym, ap, ◌∙◌, arith}
+use Rattle.std.specs.List.{slice_get, range_with_len}
 use Rattle.std.proofs.lemmas.List.{drop_more, drop_all}
-use Rattle.std.specs.List.{slice_get}
+use Rattle.std.proofs.lemmas.Option.{slice_get-get_or}
 use Rattle.store.specs.declared.Version.{Version}
 use Rattle.service.specs.Service.{largest}
-use Rattle.service.proofs.Replies.{got}
+use Rattle.service.specs.Services.{largest_found}
 
--- n is the largest so far
-pub largest_more : (vs : List Version) (i n : ℕ) (v : Version) → slice_get vs i ≡ Some v → max n (largest (drop i vs)) ≡ largest vs
-    → (a b : ℕ) → a ≡ max v.twrite v.tread → b ≡ max a n → max b (largest (drop (i + 1) vs)) ≡ largest vs
-largest_more vs i n v g h a b p q =
-    let e = got vs i v g in
-    let l : largest (drop i vs) ≡ max (max v.twrite v.tread) (largest (drop (i + 1) vs)) =
-    ap largest (drop_more vs i (record { value = 0; twrite = 0; tread = 0 }) e.0)
-    ∙ ap (λ (w : Version). max (max w.twrite w.tread) (largest (drop (i + 1) vs))) e.1
-    in
-    omega arith
+none : Version
+none = record { value = 0; twrite = 0; tread = 0 }
 
-pub largest_all : (vs : List Version) (i n : ℕ) → length vs ≤ i → max n (largest (drop i vs)) ≡ largest vs → largest vs / 16 ≡ n / 16
-largest_all vs i n h e =
-    let l : largest (drop i vs) ≡ 0 = ap largest (drop_all i vs h) in
-    let m : largest vs ≡ n = omega arith in
-    ap (λ (k : ℕ). k / 16) m
+found_from : (vs : List Version) (i n : ℕ) → i + n ≡ length vs → filter_map (λ k. slice_get vs k) (range_with_len i n) ≡ drop i vs
+found_from vs i zero e = sym (drop_all i vs (omega arith))
+found_from vs i (suc n) e = rw (slice_get-get_or vs i none (omega arith), found_from vs (i + 1) n (omega arith)) (sym (drop_more vs i none (omega arith)))
+
+folds_largest : (vs : List Version) (n : ℕ) → fold max n (map (λ (v : Version). max v.twrite v.tread) vs) ≡ max n (largest vs)
+folds_largest [] n = omega arith
+folds_largest (v ∷ vs) n = folds_largest vs (max n (max v.twrite v.tread)) ∙ omega arith
+
+pub found_largest : (vs : List Version) → largest_found vs ≡ largest vs
+found_largest vs =
+    ap (λ (us : List Version). fold max 0 (map (λ (v : Version). max v.twrite v.tread) us)) (found_from vs 0 (length vs) (omega arith)) ∙ folds_largest vs 0 ∙ omega arith

@@ -1,5 +1,6 @@
 -- A service over a store with that meaning.
-use Rattle.std.specs.Prelude.{◌≡◌, ℕ, cond, List, length, Ok, Err, Result, nat_le}
+use Rattle.std.specs.Prelude.{◌≡◌, ℕ, cond, max, List, map, fold, filter_map, length, Ok, Err, Result, nat_le}
+use Rattle.std.specs.List.{slice_get, range_with_len}
 use Rattle.store.specs.declared.Version.{Version}
 use Rattle.queue.specs.Tokens.{count}
 use Rattle.service.specs.declared.refusals.Refusal.{Refusal}
@@ -50,3 +51,7 @@ AnswersDone (Settle t i) = Unit
 abbrev pub looked : State → ℕ → Result Look Refusal
 looked s i = cond (nat_le (length s.versions) i) (Err UnknownItem)
     (Ok (record { version = version s.versions i; reads = count read_tells i s.reads; writes = count write_tells i s.writes }))
+
+-- the largest stamp among the versions that get answers for the items in turn
+abbrev pub largest_found : List Version → ℕ
+largest_found vs = fold max 0 (map (λ (v : Version). max v.twrite v.tread) (filter_map (λ i. slice_get vs i) (range_with_len 0 (length vs))))

@@ -4,7 +4,7 @@ ghost use Rattle.queue.specs.Tokens.{count};
 ghost use Rattle.queue.specs.Queues.{tokens};
 ghost use Rattle.service.specs.Service.{start, read_tells, write_tells};
 ghost use Rattle.service.specs.Desks.{item_of, Finds, changed};
-ghost use Rattle.service.specs.Services.{state_of, Makes, done, valued, stamped, AnswersDone, looked};
+ghost use Rattle.service.specs.Services.{largest_found, state_of, Makes, done, valued, stamped, AnswersDone, looked};
 ghost use Rattle.service.specs.declared.calls.Call.TheVariants.{Begin, Read, Write, Close, Certify, Commit, Abort, Settle};
 
 use crate::calls::{Answer, Call};
@@ -26,21 +26,26 @@ fn put_change<S: Store>(store: &mut S, change: Option<Change>)
     }
 }
 
+// The largest stamp of a read or a write in the store.
+fn largest_stamp<S: Store>(store: &S) -> u64
+    ensures { result ≡ largest_found (S.versions store.now) }
+{
+    (0..store.count())
+        .filter_map(|item| store.get(item))
+        .map(|version| version.twrite.max(version.tread))
+        .fold(0, u64::max)
+}
+
 impl<S: Store> Service<S> {
     // All tools idle and no tokens; the next stamps lie above every stamp in the store.
     pub fn start(store: S) -> Service<S>
         ensures store { result.store ≡ store }
         ensures starts { state_of S.versions result ≡ start (S.versions store) }
     {
-        let mut largest = 0;
-        for item in 0..store.count() {
-            if let Some(version) = store.get(item) {
-                largest = version.twrite.max(version.tread).max(largest);
-            }
-        }
+        let last = largest_stamp(&store) / TOOLS as u64;
         Service {
             store,
-            desk: Desk::new(largest / TOOLS as u64),
+            desk: Desk::new(last),
         }
     }
 

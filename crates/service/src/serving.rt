@@ -243,13 +243,12 @@ impl Desk {
             (Phase::Open, Call::Read { item, .. }) => self.read(tool, item, found),
             (Phase::Open, Call::Write { item, value, .. }) => self.write(tool, item, value, found),
             (Phase::Open, Call::Close { tick, .. }) => self.close(tool, tick),
-            (Phase::Open, Call::Abort { .. }) => self.abort(tool),
             (Phase::Closed, Call::Certify { item, .. }) => self.certify(tool, item, found),
             (Phase::Closed, Call::Commit { .. }) => self.commit(tool),
-            (Phase::Closed, Call::Abort { .. }) => self.abort(tool),
-            (Phase::Failed, Call::Abort { .. }) => self.abort(tool),
-            (Phase::Committed, Call::Settle { item, .. }) => self.settle(tool, item, found),
-            (Phase::Aborting, Call::Settle { item, .. }) => self.settle(tool, item, found),
+            (Phase::Open | Phase::Closed | Phase::Failed, Call::Abort { .. }) => self.abort(tool),
+            (Phase::Committed | Phase::Aborting, Call::Settle { item, .. }) => self.settle(
+                tool, item, found,
+            ),
             _ => Err(Refusal::WrongState),
         }
     }

@@ -37,6 +37,7 @@ impl Tool {
         }
     }
 
+    // The place of the item's entry.
     fn place_of(&self, item: Item) -> Option<usize>
         ensures value { result ≡ index_from 0 item (seat_of self.now).entries }
         ensures within { IfSome result (λ k. k < length (seat_of self.now).entries) }

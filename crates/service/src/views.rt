@@ -24,7 +24,7 @@ impl Tool {
         self.phase == phase && self.stamp == stamp
     }
 
-    // The items of the entries that stand as wanted.
+    // The items of the entries that stand as wanted. A loop, since `collect` takes an allocator and a board has none.
     fn items<P: Fn(Stand) -> bool>(&self, wanted: P) -> ItemList
         requires { P.IsAlwaysCallable wanted }
         ensures { (p : Standing → Bool) → ((a : Standing) (b : Bool) → P.post wanted a b → b ≡ p a) → items_of result ≡ items_where p (seat_of self.now).entries }
