@@ -296,20 +296,11 @@ fn held_over_a_log(rt: HostRuntime) -> Result<(), Fail> {
     is_rejected(&rt, Log::open(&mut [0; 100], 2))
 }
 
-fn on_a_pair<A: Store + Drop, B: Store + Drop>(
-    rt: &impl Abort,
-    first: A,
-    second: B,
-) -> Result<(), Fail> {
-    commits(rt, Pair::new(first, second))
-}
-
 #[test]
 fn held_over_a_pair(rt: HostRuntime) -> Result<(), Fail> {
-    on_a_pair(
+    commits(
         &rt,
-        Table::open(&mut [0; 20], 1),
-        Log::open(&mut [0; 50], 1),
+        Pair::new(Table::open(&mut [0; 20], 1), Log::open(&mut [0; 50], 1)),
     )
 }
 

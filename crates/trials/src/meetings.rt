@@ -88,14 +88,6 @@ fn full_queues(rt: HostRuntime) -> Result<(), Fail> {
 
 // The same over the other stores.
 
-fn meetings_on_a_pair<A: Store + Drop, B: Store + Drop>(
-    rt: &impl Abort,
-    first: A,
-    second: B,
-) -> Result<(), Fail> {
-    a_late_write_is_dropped_and_its_read_counts_on(rt, Pair::new(first, second))
-}
-
 #[test]
 fn over_a_log(rt: HostRuntime) -> Result<(), Fail> {
     let mut two = [0u8; 75];
@@ -110,9 +102,15 @@ fn over_a_log(rt: HostRuntime) -> Result<(), Fail> {
 fn over_a_pair(rt: HostRuntime) -> Result<(), Fail> {
     let mut table = [0u8; 20];
     let mut log = [0u8; 60];
-    meetings_on_a_pair(&rt, Table::open(&mut table, 1), Log::open(&mut log, 1))?;
+    a_late_write_is_dropped_and_its_read_counts_on(
+        &rt,
+        Pair::new(Table::open(&mut table, 1), Log::open(&mut log, 1)),
+    )?;
     // A refused table has no items, and so the pair is the log.
     let mut short = [0u8; 19];
     let mut other = [0u8; 60];
-    meetings_on_a_pair(&rt, Table::open(&mut short, 1), Log::open(&mut other, 1))
+    a_late_write_is_dropped_and_its_read_counts_on(
+        &rt,
+        Pair::new(Table::open(&mut short, 1), Log::open(&mut other, 1)),
+    )
 }
