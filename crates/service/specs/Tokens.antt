@@ -14,6 +14,6 @@ module _ {V : Type 0} where
   abbrev pub certified_tells : Tells (Certified V)
   certified_tells = record { item = λ (k : Certified V). k.item; stamp = λ (k : Certified V). k.stamp }
 
-  -- had that tool it certified under that stamp
+  -- whether that tool had it certified under that stamp
   abbrev pub is_of : ℕ → ℕ → Certified V → Bool
   is_of t st k = k.tool == t && k.stamp == st

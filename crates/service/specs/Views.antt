@@ -1,5 +1,5 @@
 -- What a look at one tool shows.
-use Rattle.std.specs.Prelude.{ℕ, Bool, not, ◌&&◌, ◌||◌, List, map, filter, ◌==◌}
+use Rattle.std.specs.Prelude.{ℕ, Bool, not, ◌&&◌, ◌||◌, List, map, filter, take, ◌==◌}
 use Rattle.std.specs.List.{list_any}
 use Rattle.service.specs.declared.tools.Entry.{Entry}
 use Rattle.service.specs.declared.tools.Phase.{Phase}
@@ -14,7 +14,7 @@ abbrev pub is_under : Phase → State → ℕ → ℕ → Bool
 is_under p s t st = is (seat s t).phase p && (seat s t).stamp == st
 
 abbrev pub items_of : ItemList → List ℕ
-items_of l = l.items.items
+items_of l = take l.used l.places
 
 -- the items of the entries that stand so, in the order of the entries
 abbrev pub items_where : (Stand → Bool) → List Entry → List ℕ

@@ -14,7 +14,6 @@ use crate::item_list::ItemList;
 use crate::services::Service;
 use crate::tokens::Certified;
 use crate::tools::{Phase, Stand, Tool};
-use arrayvec::ArrayVec;
 use store::{Item, Stamp, Store};
 
 impl Tool {
@@ -29,13 +28,13 @@ impl Tool {
         requires { P.IsAlwaysCallable wanted }
         ensures { (p : Standing → Bool) → ((a : Standing) (b : Bool) → P.post wanted a b → b ≡ p a) → items_of result ≡ items_where p (seat_of self.now).entries }
     {
-        let mut items = ArrayVec::new();
+        let mut items = ItemList::new();
         for entry in self.entries.iter() {
             if wanted(entry.stand) {
                 items.push(entry.item);
             }
         }
-        ItemList { items }
+        items
     }
 }
 
@@ -83,9 +82,7 @@ impl<S: Store> Service<S> {
     {
         match self.desk.tool(tool) {
             Some(own) => own.items(wanted),
-            None => ItemList {
-                items: ArrayVec::new(),
-            },
+            None => ItemList::new(),
         }
     }
 
