@@ -6,7 +6,7 @@ use arrayvec::ArrayVec;
 use store::Item;
 
 // Items of one transaction, in the order of its entries.
-#[derive(Drop)]
+#[derive(Clone, Drop)]
 pub struct ItemList {
     pub(crate) items: ArrayVec<Item, ENTRIES>,
 }
