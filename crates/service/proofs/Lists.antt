@@ -1,4 +1,4 @@
--- Lists of items and tokens, one place at a time.
+-- Lists as the code writes and reads them.
 use Rattle.std.proofs.Common.{◌≡◌, ℕ, zero, suc, ◌<◌, List, [], ◌∷◌, ◌++◌, map, length, get_or, Bool, false, ◌&&◌, ◌==◌, Some, None, Option, MatchOption, Bor, sym, take, set, replicate, refl, ap, ◌∙◌, arith}
 use Rattle.std.proofs.lemmas.List.{append-nil, drop_all, take_all}
 use Rattle.std.proofs.Math.ListN.{length-set}
