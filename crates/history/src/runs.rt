@@ -1,7 +1,6 @@
 // Lists of calls, made on a service one after the other.
 ghost use Rattle.std.specs.Prelude.{◌≡◌, min, List, [], length, drop};
 ghost use Rattle.store.specs.declared.Version.{Version};
-ghost use Rattle.service.specs.Service.{Does};
 ghost use Rattle.service.specs.Services.{state_of};
 ghost use Rattle.history.specs.History.{History};
 ghost use Rattle.history.specs.Runs.{Run, Runs, onward};
@@ -12,20 +11,6 @@ use store::Store;
 // What a call answered.
 pub type Outcome = Result<Answer, Refusal>;
 
-// As many calls as there are places for their answers.
-fn places(calls: &[Call], answers: &[Outcome]) -> usize
-    ensures { result ≡ min (length calls.now) (length answers.now) }
-{
-    calls.len().min(answers.len())
-}
-
-// Makes one call and writes its answer down.
-fn make<S: Store>(service: &mut Service<S>, call: Call, answer: &mut Outcome)
-    ensures { Does (state_of S.versions service.old) call answer.new (state_of S.versions service.new) }
-{
-    *answer = service.call(call);
-}
-
 // Makes the calls in their order and writes down their answers, as many as there are places for. Whatever run from
 // start led to the service, it goes on as a run, and so it keeps the law.
 pub fn resume<S: Store>(service: &mut Service<S>, calls: &[Call], answers: &mut [Outcome]) -> usize
@@ -33,27 +18,12 @@ pub fn resume<S: Store>(service: &mut Service<S>, calls: &[Call], answers: &mut 
     ensures rest { drop result answers.new ≡ drop result answers.old }
     ensures runs { (vs : List Version) (h : History) → Run vs h (state_of S.versions service.old) → Runs vs (onward calls.now answers.new h) (state_of S.versions service.new) }
 {
-    let count = places(calls, answers);
+    let count = calls.len().min(answers.len());
     // By index, since a proof knows nothing of what is written through an `iter_mut` that is zipped.
     for i in 0..count {
-        make(service, calls[i], &mut answers[i]);
+        answers[i] = service.call(calls[i]);
     }
     count
-}
-
-// A service that has served no call yet.
-fn begin<S: Store>(store: S) -> Service<S>
-    ensures { Run (S.versions store) [] (state_of S.versions result) }
-{
-    Service::start(store)
-}
-
-// Every call; answers without a call stay as they were.
-fn make_all<S: Store>(service: &mut Service<S>, calls: &[Call], answers: &mut [Outcome])
-    ensures runs { (vs : List Version) (h : History) → Run vs h (state_of S.versions service.old) → Runs vs (onward calls.now answers.new h) (state_of S.versions service.new) }
-    ensures rest { drop (length calls.now) answers.new ≡ drop (length calls.now) answers.old }
-{
-    let _ = resume(service, calls, answers);
 }
 
 // The same from start on.
@@ -61,7 +31,7 @@ pub fn run<S: Store>(store: S, calls: &[Call], answers: &mut [Outcome]) -> Servi
     ensures runs { Runs (S.versions store) (onward calls.now answers.new []) (state_of S.versions result) }
     ensures rest { drop (length calls.now) answers.new ≡ drop (length calls.now) answers.old }
 {
-    let mut service = begin(store);
-    make_all(&mut service, calls, answers);
+    let mut service = Service::start(store);
+    let _ = resume(&mut service, calls, answers);
     service
 }

@@ -15,6 +15,7 @@ pub fn replay_all(rt: &HostRuntime, lines: &[String]) -> anyhow::Result<()> {
     Ok(())
 }
 
+// The arms of the table and of the log differ in the type alone: no trait opens a store, which borrows its buffer.
 fn open(rt: &HostRuntime, text: &str, opening: Opening, rest: &[String]) -> anyhow::Result<()> {
     match opening {
         Opening::Table(shape) => {

@@ -15,7 +15,7 @@ use store::{Log, Pair, Store, Table, Version};
 // No reply has more bytes.
 const LONGEST_REPLY: usize = 15;
 
-// A store whose buffers can be shown.
+// A store whose buffers can be shown. `bytes` is a method of each store's own, and of no trait.
 pub trait Shown {
     fn buffers(&self, heap: Global) -> Result<Vec<&[u8]>, AllocError>;
 }

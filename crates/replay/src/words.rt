@@ -70,18 +70,13 @@ fn number(word: &str) -> Result<u64, Unread> {
     Ok(word.parse::<u64>()?)
 }
 
-fn digit(c: u8) -> Result<u8, Unread> {
-    match c {
-        b'0'..=b'9' => Ok(c - b'0'),
-        b'a'..=b'f' => Ok(c - b'a' + 10),
-        b'A'..=b'F' => Ok(c - b'A' + 10),
+// A byte as two hexadecimal digits.
+fn byte(pair: &[u8; 2]) -> Result<u8, Unread> {
+    let [high, low] = pair.map(|c| char::from(c).to_digit(16));
+    match (high, low) {
+        (Some(high), Some(low)) => Ok((16 * high + low) as u8),
         _ => Err(Unread::NotUnderstood),
     }
-}
-
-fn byte(pair: &[u8; 2]) -> Result<u8, Unread> {
-    let [high, low] = pair;
-    Ok((digit(*high)? & 15) << 4 | digit(*low)? & 15)
 }
 
 // Bytes as pairs of hexadecimal digits.
@@ -132,15 +127,17 @@ fn spelled(name: &str, numbers: &[u64]) -> Result<Request, Unread> {
 }
 
 // A store of so many items in so many bytes, zero but for those at its front, if the program makes such a buffer.
-fn shaped(count: u64, length: u64, front: Vec<u8>) -> Result<Shape, Unread> {
+fn shaped(count: u64, length: u64, mut front: Vec<u8>) -> Result<Shape, Unread> {
     let count = usize::try_from(count)?;
     let length = usize::try_from(length)?;
     if front.len() > length || length > MOST_BYTES {
         return Err(Unread::NotUnderstood);
     }
-    let mut buffer = front;
-    buffer.resize(length, 0)?;
-    Ok(Shape { count, buffer })
+    front.resize(length, 0)?;
+    Ok(Shape {
+        count,
+        buffer: front,
+    })
 }
 
 // `COUNT LENGTH [BYTES]`
