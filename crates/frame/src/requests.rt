@@ -40,7 +40,6 @@ pub struct Request {
     pub tick: u64,
 }
 
-// The calls' numbers stand in this conversion and the next one alone; an enum of them beside `Call` would be one more list.
 impl TryFrom<Request> for Call {
     type Error = Fault;
 
