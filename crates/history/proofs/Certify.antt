@@ -20,13 +20,13 @@ use Rattle.history.proofs.Cards.{Ghost, Source, SeatOk, Core, Stands, Done, Held
 -- what the first three tests say of a read at w
 passed : (o : Option ℕ) (w tw st : ℕ) (b : Bool) → o ≡ Some w → (option_is_some o && not (eqb tw (unwrap_or o 0))) ≡ false → (option_is_some o && leb st tw) ≡ false → (option_is_some o && b) ≡ false
     → (tw ≡ w) × (tw < st) × (b ≡ false)
-passed None w tw st b h r9 r10 r11 = let z : ◌≡◌ {A = ℕ} 0 1 = cc in absurd (omega arith)
+passed None w tw st b h r9 r10 r11 = cc
 passed (Some v) w tw st b h r9 r10 r11 =
     let q : v ≡ w = cc in
     (eqb-true tw v (not-false (eqb tw v) r9) ∙ q, leb-false st tw r10, r11)
 
 pub is_some : (o : Option ℕ) (w : ℕ) → o ≡ Some w → option_is_some o ≡ true
-is_some None w h = let z : ◌≡◌ {A = ℕ} 0 1 = cc in absurd (omega arith)
+is_some None w h = cc
 is_some (Some v) w h = refl
 
 module _ (vs : List Version) (s : State) (g : Ghost) (k : Core vs s g) (z : Sound s) (t : ℕ) (lt : t < 16) (i : ℕ)

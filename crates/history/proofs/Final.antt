@@ -32,7 +32,7 @@ seen_of None = None
 seen_of (Some e) = e.seen
 
 seen_from : (o : Option Entry) (w : ℕ) → seen_of o ≡ Some w → (e : Entry) × (o ≡ Some e) × (e.seen ≡ Some w)
-seen_from None w h = let z : ◌≡◌ {A = ℕ} 0 1 = cc in absurd (omega arith)
+seen_from None w h = cc
 seen_from (Some e) w h = (e, refl, h)
 
 module _ (vs : List Version) (s : State) (g : Ghost) (ts : List Transaction) (k : Core vs s g) (l : Link s g ts) where

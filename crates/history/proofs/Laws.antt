@@ -1,5 +1,5 @@
 -- What refusals keep, and what settle alone changes.
-use Rattle.std.proofs.Common.{◌≡◌, ℕ, Bool, true, false, cond, List, set, Some, None, Err, Option, Result, sym, refl, ap, ◌∙◌, subst, arith}
+use Rattle.std.proofs.Common.{◌≡◌, ℕ, Bool, true, false, cond, List, set, Some, None, Err, Option, Result, sym, refl, ap, ◌∙◌, subst}
 use Rattle.std.proofs.lemmas.List.{get_or-set_other}
 use Rattle.std.proofs.lemmas.Bool.{eqb-false}
 use Rattle.store.specs.declared.Version.{Version}
@@ -25,8 +25,7 @@ refusals_keep s c r s' d f = go (refusal (rules s c)) d
     go : (o : Option Refusal) → outcome s (seat s (tool_of c)) c o ≡ (Err r, s') → s' ≡ s
     go None q =
         let e = ap (λ (p : Result Answer Refusal × State). p.0) q in
-        let z : ◌≡◌ {A = ℕ} 0 1 = cc in
-        absurd (omega arith)
+        cc
     go (Some n) q =
         let e : ◌≡◌ {A = Result Answer Refusal} (Err n) (Err r) = ap (λ (p : Result Answer Refusal × State). p.0) q in
         let m : n ≡ r = cc in

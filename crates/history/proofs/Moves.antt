@@ -150,7 +150,7 @@ module _ (vs : List Version) (s : State) (g : Ghost) (k : Core vs s g) (z : Soun
         (go (find i (seat s t).entries) refl) (λ _ _. refl) (λ _ _. refl)
       where
         go : (o : Option Entry) → find i (seat s t).entries ≡ o → (w : ℕ) → (or_blank i o).seen ≡ Some w → Source vs g.cards i w (g.base t i)
-        go None f w se = let q : ◌≡◌ {A = ℕ} 0 1 = cc in absurd (omega arith)
+        go None f w se = cc
         go (Some e) f w se = ok.source i e w f se
 
     abbrev pub seen_now : ℕ → Ghost

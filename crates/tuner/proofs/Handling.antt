@@ -28,9 +28,6 @@ use Rattle.held.proofs.Made.{made_after}
 use Rattle.tuner.specs.Hands.{IsOpen, IsClosed}
 use Rattle.tuner.proofs.Turns.{was_refused, elsewhere, open_refused, known, open_accepted, close_accepted, certifications_keep}
 
-no_back : {B : Type 0} (p : Refusal × B) → ◌≡◌ {A = Result (Unit {0}) (Refusal × B)} (Err p) (Ok tt) → ⊥
-no_back p q = let z : ◌≡◌ {A = ℕ} 0 1 = cc in omega arith
-
 module _ {S : Type 0} (versions : S → List Version) where
   -- each of the sixteen tools has a seat
   pub sixteen : (x : Service S) (t : ℕ) → t < 16 → t < length (state_of versions x).seats
@@ -66,7 +63,7 @@ module _ {S : Type 0} (versions : S → List Version) where
       go (step s (Commit g.tool)).0 refl (m.answer ∙ ap (λ (b : Bool). (only_if b (Err (WrongState, g)) (settles_all g (Commit g.tool) s)).answer) k.closed_then)
     where
       go : (a : Result Answer Refusal) → (step (state_of versions x) (Commit g.tool)).0 ≡ a → ◌≡◌ {A = Result (Unit {0}) (Refusal × Grant)} (Err p) (or_back g (without a)) → IsClosed (state_of versions y) p.1.tool p.1.stamp
-      go (Ok a) h q = absurd (no_back p q)
+      go (Ok a) h q = cc
       go (Err r) h q =
           let s = state_of versions x in
           let c = Commit g.tool in
@@ -104,17 +101,17 @@ module _ {S : Type 0} (versions : S → List Version) where
         go (Ok u) f q =
             let e : g ≡ record { tool = h.tool; stamp = h.stamp } = cc in
             subst (λ (v : Grant). IsClosed (state_of versions y) v.tool v.stamp) (sym e) (still (Ok g) m (ap is_rejection f))
-        go (Err r) f q = let z : ◌≡◌ {A = ℕ} 0 1 = cc in absurd (omega arith)
+        go (Err r) f q = cc
 
     pub refused_keeps : (r : Refusal) (c : Closed) → Performs versions x (certifies_all h) (Err (Refused r c)) y → IsClosed (state_of versions y) c.tool c.stamp
     refused_keeps r c m = go (first_refusal (state_of versions x) (certifications h.tool (state_of versions x))) refl (answered (Err (Refused r c)) m)
       where
         back : (n : Refusal) (b : Bool) → rejects n ≡ b → ◌≡◌ {A = Result Grant Uncertified} (Err (Refused r c)) (Err (cond b (Rejected n) (Refused n h))) → (rejects n ≡ false) × (c ≡ h)
-        back n true f q = let z : ◌≡◌ {A = ℕ} 0 1 = cc in absurd (omega arith)
+        back n true f q = cc
         back n false f q = (f, cc)
 
         go : (o : Result (Unit {0}) Refusal) → first_refusal (state_of versions x) (certifications h.tool (state_of versions x)) ≡ o → ◌≡◌ {A = Result Grant Uncertified} (Err (Refused r c)) (granted h o) → IsClosed (state_of versions y) c.tool c.stamp
-        go (Ok u) f q = let z : ◌≡◌ {A = ℕ} 0 1 = cc in absurd (omega arith)
+        go (Ok u) f q = cc
         go (Err n) f q =
             let e = back n (rejects n) refl q in
             subst (λ (v : Closed). IsClosed (state_of versions y) v.tool v.stamp) (sym e.1) (still (Err (Refused r c)) m (ap is_rejection f ∙ e.0))

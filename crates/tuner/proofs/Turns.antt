@@ -32,8 +32,7 @@ was_accepted s s' c a d = go (refusal (rules s c)) refl d
         (h, cc, ap (λ (p : Stepped). p.1) q)
     go (Some r) h q =
         let e : ◌≡◌ {A = Result Answer Refusal} (Err r) (Ok a) = ap (λ (p : Stepped). p.0) q in
-        let z : ◌≡◌ {A = ℕ} 0 1 = cc in
-        absurd (omega arith)
+        cc
 
 pub was_refused : (s s' : State) (c : Call) (r : Refusal) → Does s c (Err r) s' → refusal (rules s c) ≡ Some r
 was_refused s s' c r d = go (refusal (rules s c)) refl d
@@ -41,8 +40,7 @@ was_refused s s' c r d = go (refusal (rules s c)) refl d
     go : (o : Option Refusal) → refusal (rules s c) ≡ o → outcome s (seat s (tool_of c)) c o ≡ (Err r, s') → refusal (rules s c) ≡ Some r
     go None h q =
         let e : ◌≡◌ {A = Result Answer Refusal} (Ok (answer s (seat s (tool_of c)) c)) (Err r) = ap (λ (p : Stepped). p.0) q in
-        let z : ◌≡◌ {A = ℕ} 0 1 = cc in
-        absurd (omega arith)
+        cc
     go (Some n) h q =
         let e : ◌≡◌ {A = Result Answer Refusal} (Err n) (Err r) = ap (λ (p : Stepped). p.0) q in
         let m : n ≡ r = cc in
