@@ -30,9 +30,3 @@ returns-clause-acts c vs f =
     (settle_versions (state vs d) t i c.in_ok-k.entry present _ stamp _ (ap (λ (x : Seat). x.phase) own) ∙ sym (rw its at (c.settlement-change.ensures.value vs (rw its f))))
     (settle_reads (state vs d) t i c.in_ok-k.entry present _ stamp ∙ sym (rw its at c.dequeue.ensures.reads))
     (settle_writes (state vs d) t i c.in_ok-k.entry present _ stamp ∙ sym (rw its at c.dequeue.ensures.writes)))
-
-pub returns-clause-quiet : goal.returns-clause-quiet
-returns-clause-quiet c vs f q =
-    let seen : c.find.result ≡ Some (c.in_ok-k.k, c.in_ok-k.entry) = grind arith in
-    let its = rw seen at c.find.ensures.own in
-    c.settlement-change.ensures.quiet vs (rw its f) q
