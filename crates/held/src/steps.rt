@@ -27,6 +27,7 @@ pub(crate) fn certify_bare<S: Store>(service: &mut Service<S>, tool: u8) -> Resu
     certify_each(service, tool, bare.as_slice())
 }
 
+// Settles these items. Unlike certifying them it does not stop at a refusal, and so it answers nothing.
 fn settle_each<S: Store>(service: &mut Service<S>, tool: u8, items: &[Item])
     ensures { Made S.versions service.old (map (Settle tool) items.now) service.new }
 {

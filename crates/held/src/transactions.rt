@@ -13,7 +13,8 @@ pub struct Closed {
     pub(crate) stamp: Stamp,
 }
 
-// The right to commit a transaction, all of whose entries were certified. It must be spent.
+// The right to commit a transaction, all of whose entries were certified. It must be spent. It holds what a closed one
+// holds, and is a type of its own, so that neither can stand for the other.
 pub struct Grant {
     pub(crate) tool: u8,
     pub(crate) stamp: Stamp,

@@ -9,6 +9,7 @@ mod words;
 fn main(rt: HostRuntime) -> anyhow::Result<()> {
     let heap = rt.alloc();
     let mut lines = Vec::new(heap);
+    // Each line may fail by itself, and what asks for nothing is passed over.
     for line in rt.lines(heap) {
         let line = line?;
         if words::is_asking(line.as_str()) {

@@ -1,4 +1,4 @@
-// The buffer that a store works on.
+// The buffer that a store works on, lent by its owner: a board has no heap.
 ghost use Rattle.std.specs.Prelude.{◌≡◌, ◌+◌, ◌-◌, ◌≤◌, ◌++◌, length, take, replicate};
 ghost use Rattle.store.specs.Bytes.{over, part};
 

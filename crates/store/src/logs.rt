@@ -49,7 +49,7 @@ impl<'a> Log<'a> {
         }
     }
 
-    // The whole buffer.
+    // The whole buffer. A log and a table state formats of their own, and nobody is generic over the two.
     pub fn bytes(&self) -> &[u8]
         ensures { result.now ≡ self.now.records.area.bytes.now }
     {

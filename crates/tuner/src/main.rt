@@ -1,11 +1,11 @@
 #![tactic(auto)]
 // An auto-tuner over a table of parameters. It moves a gain towards what it measures, in transactions that it holds; at
 // a rejection it begins again. An operator's tool changes a limit meanwhile, by single calls, so that one rejection happens.
-ghost use Rattle.std.specs.Prelude.{◌≡◌, ℕ, ◌≢◌, IfErr};
+ghost use Rattle.std.specs.Prelude.{◌≡◌, ℕ, ◌≢◌, Some, None, IfErr};
 ghost use Rattle.service.specs.Service.{seat};
 ghost use Rattle.service.specs.Services.{state_of};
 ghost use Rattle.tuner.specs.declared.Ended.TheVariants.{Refused as EndedRefused, Printing};
-ghost use Rattle.tuner.specs.declared.Hand.TheVariants.{Empty, Open as OpenInHand, Closed as ClosedInHand, Granted};
+ghost use Rattle.tuner.specs.declared.Hand.TheVariants.{Open as OpenInHand, Closed as ClosedInHand, Granted};
 ghost use Rattle.tuner.specs.Hands.{IsOpen, Stands, GivenUp};
 
 use held::{Closed, Grant, Open, Uncertified};
@@ -24,9 +24,8 @@ const LIMIT: Item = 1;
 
 const ATTEMPTS: u64 = 3;
 
-// What the tuner has in hand. None of it may be let fall, so it is handed on and given up.
+// What the tuner has in hand. It may not be let fall, so it is handed on and given up.
 enum Hand {
-    Empty,
     Open(Open),
     Closed(Closed),
     Granted(Grant),
@@ -35,46 +34,48 @@ enum Hand {
 // Why the tuner cannot go on, and what it has in hand then.
 struct Stop {
     refusal: Refusal,
-    hand: Hand,
+    hand: Option<Hand>,
 }
 
 impl From<Refusal> for Stop {
-    ghost from_gives = { λ refusal stop. stop ≡ record { refusal = refusal; hand = Empty } };
+    ghost from_gives = { λ refusal stop. stop ≡ record { refusal = refusal; hand = None } };
 
     fn from(refusal: Refusal) -> Stop {
-        let hand = Hand::Empty;
-        Stop { refusal, hand }
+        Stop {
+            refusal,
+            hand: None,
+        }
     }
 }
 
 impl From<(Refusal, Open)> for Stop {
-    ghost from_gives = { λ back stop. stop ≡ record { refusal = back.0; hand = OpenInHand back.1 } };
+    ghost from_gives = { λ back stop. stop ≡ record { refusal = back.0; hand = Some (OpenInHand back.1) } };
 
     fn from((refusal, held): (Refusal, Open)) -> Stop {
-        let hand = Hand::Open(held);
+        let hand = Some(Hand::Open(held));
         Stop { refusal, hand }
     }
 }
 
 impl From<(Refusal, Closed)> for Stop {
-    ghost from_gives = { λ back stop. stop ≡ record { refusal = back.0; hand = ClosedInHand back.1 } };
+    ghost from_gives = { λ back stop. stop ≡ record { refusal = back.0; hand = Some (ClosedInHand back.1) } };
 
     fn from((refusal, held): (Refusal, Closed)) -> Stop {
-        let hand = Hand::Closed(held);
+        let hand = Some(Hand::Closed(held));
         Stop { refusal, hand }
     }
 }
 
 impl From<(Refusal, Grant)> for Stop {
-    ghost from_gives = { λ back stop. stop ≡ record { refusal = back.0; hand = Granted back.1 } };
+    ghost from_gives = { λ back stop. stop ≡ record { refusal = back.0; hand = Some (Granted back.1) } };
 
     fn from((refusal, held): (Refusal, Grant)) -> Stop {
-        let hand = Hand::Granted(held);
+        let hand = Some(Hand::Granted(held));
         Stop { refusal, hand }
     }
 }
 
-// Why a session ended early.
+// Why a session ended early. Nothing is in hand then, so unlike a `Stop` it may be dropped and printed.
 #[derive(Debug, Drop)]
 enum Ended {
     Refused(Refusal),
@@ -105,10 +106,10 @@ fn give_up<S: Store>(stop: Stop, service: &mut Service<S>) -> Refusal
 {
     let Stop { refusal, hand } = stop;
     match hand {
-        Hand::Empty => {}
-        Hand::Open(held) => held.abort(service).unwrap(),
-        Hand::Closed(held) => held.abort(service).unwrap(),
-        Hand::Granted(held) => held.abort_all(service).unwrap(),
+        None => {}
+        Some(Hand::Open(held)) => held.abort(service).unwrap(),
+        Some(Hand::Closed(held)) => held.abort(service).unwrap(),
+        Some(Hand::Granted(held)) => held.abort_all(service).unwrap(),
     }
     refusal
 }
