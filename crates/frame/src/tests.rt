@@ -12,7 +12,7 @@ const READ: [u8; 13] = [0x54, 0, 1, 2, 0x43, 0, 1, 2, 0x49, 0, 2, 0, 7];
 // Where the fields of a request begin; a write has all four.
 const HEADS: [usize; 4] = [0, 4, 8, 13];
 
-// The fault, if any, of a frame with one bit of one byte turned; it is turned back.
+// The fault of a frame with one bit of one byte turned, and None where that makes a good frame; the bit is turned back.
 fn damaged(frame: &mut [u8], at: usize) -> Option<Fault> {
     if at >= frame.len() {
         return None;

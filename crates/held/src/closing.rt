@@ -9,7 +9,8 @@ use crate::transactions::{Closed, Grant, Uncertified};
 use service::{Refusal, Service};
 use store::{Stamp, Store};
 
-// Whether the tool's transaction is still this one; a failed one may be aborted.
+// Whether the tool's transaction is still this one; a failed one may be aborted. Tool and stamp go as two, since the
+// service's calls take them so.
 fn is_abortable<S: Store>(service: &Service<S>, tool: u8, stamp: Stamp) -> bool
     ensures { result ≡ is_abortable (state_of S.versions service.now) tool stamp }
 {

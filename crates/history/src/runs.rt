@@ -19,7 +19,7 @@ pub fn resume<S: Store>(service: &mut Service<S>, calls: &[Call], answers: &mut 
     ensures runs { (vs : List Version) (h : History) → Run vs h (state_of S.versions service.old) → Runs vs (onward calls.now answers.new h) (state_of S.versions service.new) }
 {
     let count = calls.len().min(answers.len());
-    // By index, since a proof knows nothing of what is written through an `iter_mut` that is zipped.
+    // By index: with a zipped `iter_mut` the proof, as tried, does not close, since it knows nothing of what is written.
     for i in 0..count {
         answers[i] = service.call(calls[i]);
     }

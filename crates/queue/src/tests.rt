@@ -25,19 +25,29 @@ fn token(item: Item, stamp: Stamp, mark: u8) -> Mark {
     Mark { item, stamp, mark }
 }
 
+// These places with the queue's tokens at their front.
+fn placed<const N: usize>(queue: &Queue<Mark, N>, mut places: [Mark; N]) -> [Mark; N] {
+    for (place, token) in places.iter_mut().zip(queue.tokens()) {
+        *place = *token;
+    }
+    places
+}
+
 #[test]
 fn equal_stamps_keep_their_order(rt: HostRuntime) {
     let mut queue = Queue::<Mark, 4>::new();
     assert!(rt; queue.insert(token(1, 5, 1)).is_ok());
     assert!(rt; queue.insert(token(2, 7, 2)).is_ok());
     assert!(rt; queue.insert(token(3, 5, 3)).is_ok());
-    let places = [
-        token(1, 5, 1),
-        token(3, 5, 3),
-        token(2, 7, 2),
-        token(0, 0, 0),
-    ];
-    assert_eq!(rt; queue.tokens(), &places[..3]);
+    assert_eq!(rt;
+        placed(&queue, [token(0, 0, 0); 4]),
+        [
+            token(1, 5, 1),
+            token(3, 5, 3),
+            token(2, 7, 2),
+            token(0, 0, 0),
+        ]
+    );
 }
 
 #[test]
@@ -45,20 +55,24 @@ fn full_places_refuse(rt: HostRuntime) {
     let mut queue = Queue::<Mark, 2>::new();
     assert!(rt; queue.insert(token(1, 5, 1)).is_ok());
     assert!(rt; queue.insert(token(2, 7, 2)).is_ok());
-    assert!(rt; queue.insert(token(3, 6, 3)).is_err());
+    let refused = queue.insert(token(3, 6, 3)).err();
+    assert_eq!(rt; refused.map(|full| full.element()), Some(token(3, 6, 3)));
     assert_eq!(rt; queue.tokens(), [token(1, 5, 1), token(2, 7, 2)].as_slice());
 }
 
 #[test]
 fn the_first_of_two_equal_goes(rt: HostRuntime) {
+    let places = [token(1, 4, 0), token(1, 5, 1), token(1, 5, 2)];
     let mut queue = Queue::<Mark, 3>::new();
-    assert!(rt; queue.insert(token(1, 4, 0)).is_ok());
-    assert!(rt; queue.insert(token(1, 5, 1)).is_ok());
-    assert!(rt; queue.insert(token(1, 5, 2)).is_ok());
-    assert!(rt; queue.remove(1, 5).is_some());
-    assert!(rt; queue.remove(2, 5).is_none());
-    let places = [token(1, 4, 0), token(1, 5, 2), token(1, 5, 2)];
-    assert_eq!(rt; queue.tokens(), &places[..2]);
+    for token in places {
+        assert!(rt; queue.insert(token).is_ok());
+    }
+    assert_eq!(rt; queue.remove(1, 5), Some(token(1, 5, 1)));
+    assert_eq!(rt; queue.remove(2, 5), None);
+    assert_eq!(rt;
+        placed(&queue, places),
+        [token(1, 4, 0), token(1, 5, 2), token(1, 5, 2)]
+    );
 }
 
 #[test]
@@ -70,7 +84,7 @@ fn oldest_and_youngest(rt: HostRuntime) {
     assert_eq!(rt; queue.count(1), 2);
     assert_eq!(rt; queue.oldest_above(1, 5), Some(token(1, 7, 1)));
     assert_eq!(rt; queue.youngest(1), Some(token(1, 7, 1)));
-    assert!(rt; queue.remove(1, 7).is_some());
+    assert_eq!(rt; queue.remove(1, 7), Some(token(1, 7, 1)));
     assert_eq!(rt; queue.oldest_above(1, 5), None);
     assert_eq!(rt; queue.len(), 2);
 }

@@ -9,7 +9,7 @@ mod words;
 fn main(rt: HostRuntime) -> anyhow::Result<()> {
     let heap = rt.alloc();
     let mut lines = Vec::new(heap);
-    // Each line may fail by itself, and what asks for nothing is passed over.
+    // A loop: each line may fail by itself, and a chain would have to carry that past the test.
     for line in rt.lines(heap) {
         let line = line?;
         if words::is_asking(line.as_str()) {

@@ -6,6 +6,7 @@ use store::{Fault, Log, Pair, Store, Table};
 
 // Opens the store that the first line to do so names, and replays those behind it over that store.
 pub fn replay_all(rt: &HostRuntime, lines: &[String]) -> anyhow::Result<()> {
+    // Counted, since what follows the opening line is handed on.
     for (k, text) in lines.iter().enumerate() {
         if let Some(Line::Opening(opening)) = words::parse(rt.alloc(), text.as_str())? {
             return open(rt, text.as_str(), opening, &lines[k + 1..]);

@@ -194,7 +194,8 @@ pub fn is_asking(text: &str) -> bool {
     !text.is_empty() && !text.starts_with('#')
 }
 
-// What a line asks for, if it is understood.
+// What a line asks for, if it is understood. Memory that runs out ends the program, and so it alone is an error here; a line
+// that is not understood has an answer.
 pub fn parse(heap: Global, text: &str) -> Result<Option<Line>, AllocError> {
     match understood(heap, text) {
         Ok(line) => Ok(Some(line)),

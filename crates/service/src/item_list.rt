@@ -4,7 +4,7 @@ ghost use Rattle.std.specs.Prelude.{◌≡◌, ◌<◌, ◌≤◌, [], ◌∷◌
 use crate::tools::ENTRIES;
 use store::Item;
 
-// Items of one transaction, in the order of its entries. Its holders may copy it, which an `ArrayVec` does not allow.
+// Items of one transaction, in the order of its entries. Callers are promised a type that is `Copy`, and no `ArrayVec` is.
 #[derive(Clone, Copy)]
 pub struct ItemList {
     places: [Item; ENTRIES],

@@ -53,6 +53,7 @@ impl Desk {
         }
     }
 
+    // What a call does, and that it changes no version without need: two clauses, since the check finds the second by itself.
     fn begin(&mut self, tool: ToolNumber) -> Result<Effect, Refusal>
         ensures acts { Acts self.old (Begin tool.number) None result self.new }
         ensures quiet { Quiet (Begin tool.number) None result }

@@ -49,7 +49,7 @@ impl<'a> Log<'a> {
         }
     }
 
-    // The whole buffer. A log and a table state formats of their own, and nobody is generic over the two.
+    // The whole buffer. A table has the like of this, of `open` and of `check`, each stated by its own format.
     pub fn bytes(&self) -> &[u8]
         ensures { result.now ≡ self.now.records.area.bytes.now }
     {
@@ -86,7 +86,7 @@ impl Store for Log<'_> {
         self.records.version(item)
     }
 
-    // Beside the versions: what every byte of the buffer is.
+    // Beside the versions: what every byte of the buffer is, and that the count stays, which no type can say of a change.
     fn put(&mut self, item: Item, version: Version)
         ensures versions { log self.new.records.area.bytes.now self.new.count ≡ slice_set (log self.old.records.area.bytes.now self.old.count) item version }
         ensures bytes { self.new.records.area.bytes.now ≡ after_put self.old.records.area.bytes.now self.old.count item version }

@@ -22,7 +22,8 @@ pub(crate) fn pack(version: Version) -> [u8; SIZE]
     bytes
 }
 
-// The version in bytes of just the right number.
+// The version in bytes of just the right number. An Option, as the splits of a slice are: an array would have each of the
+// three unwrapped, and every caller make one.
 pub(crate) fn unpack(bytes: &[u8]) -> Option<Version>
     ensures { result ≡ (if nat_eq (length bytes.now) version_size then Some (unpackedOf bytes.now) else None) }
 {

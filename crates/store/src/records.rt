@@ -92,7 +92,7 @@ pub(crate) fn records_in(bytes: &[u8]) -> &[[u8; RECORD]]
 }
 
 // A record at a place behind all others: it is the last of its item. That an item is below 256 its callers know from the
-// log's count or from the record.
+// log's count or from the record; a type for it would be made at two calls, and no clause would be shorter.
 fn note(latest: &mut [Option<u16>; MOST_ITEMS], item: Item, place: usize)
     requires there { item < 256 }
     requires fits { place < 65536 }

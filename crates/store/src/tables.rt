@@ -43,7 +43,7 @@ impl<'a> Table<'a> {
         }
     }
 
-    // The whole buffer.
+    // The whole buffer. A log has the like of this, of `open` and of `check`, each stated by its own format.
     pub fn bytes(&self) -> &[u8]
         ensures { result.now ≡ self.now.area.bytes.now }
     {
@@ -68,7 +68,7 @@ impl Store for Table<'_> {
         packed::unpack(&self.area.bytes[at..at + RECORD])
     }
 
-    // Beside the versions: what every byte of the buffer is.
+    // Beside the versions: what every byte of the buffer is, and that the count stays, which no type can say of a change.
     fn put(&mut self, item: Item, version: Version)
         ensures versions { table self.new.area.bytes.now self.new.count ≡ slice_set (table self.old.area.bytes.now self.old.count) item version }
         ensures bytes { self.new.area.bytes.now ≡ after_put self.old.area.bytes.now self.old.count item version }

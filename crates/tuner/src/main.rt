@@ -48,6 +48,7 @@ impl From<Refusal> for Stop {
     }
 }
 
+// One conversion for each thing that can be in hand, so that `?` takes what a refusal hands back; each names its own case.
 impl From<(Refusal, Open)> for Stop {
     ghost from_gives = { λ back stop. stop ≡ record { refusal = back.0; hand = Some (OpenInHand back.1) } };
 
