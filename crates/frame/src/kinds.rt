@@ -13,7 +13,7 @@ pub(crate) const LONGEST_REQUEST: usize = 4 * HEAD
     + size_of::<Item>()
     + size_of::<Value>();
 
-pub(crate) const LONGEST_REPLY: usize = 2 * HEAD + size_of::<u8>() + size_of::<Stamp>();
+pub const LONGEST_REPLY: usize = 2 * HEAD + size_of::<u8>() + size_of::<Stamp>();
 
 // Each kind by its tag.
 #[derive(Clone, Copy, PartialEq, Eq, Debug)]

@@ -4,7 +4,8 @@ use crate::Token;
 use arrayvec::{ArrayVec, CapacityError};
 use store::{Item, Stamp};
 
-// At most `PLACES` tokens, in ascending stamp order.
+// At most `PLACES` tokens, in ascending stamp order. Contracts see them by the word `tokens`, of which the service's state is
+// made, as of what `seat_of` says of a tool.
 #[derive(Drop)]
 pub struct Queue<T, const PLACES: usize> {
     pub(crate) tokens: ArrayVec<T, PLACES>,

@@ -7,13 +7,11 @@ ghost use Rattle.history.specs.Runs.{Run, Runs};
 
 use crate::answers::{Hexadecimal, Reply};
 use crate::words::{self, Line, Request};
+use frame::LONGEST_REPLY;
 use history::{Event, Outcome, all_settled, committed_stamps, resume, serial_run};
 use service::{Call, Refusal, Service};
 use std::alloc::{AllocError, Global};
 use store::{Log, Pair, Store, Table, Version};
-
-// No reply has more bytes.
-const LONGEST_REPLY: usize = 15;
 
 // A store whose buffers can be shown. `bytes` is a method of each store's own, and of no trait.
 pub trait Shown {

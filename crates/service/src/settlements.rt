@@ -39,7 +39,8 @@ fn committed(stamp: Stamp, entry: Entry, found: Option<Version>) -> Option<Chang
     })
 }
 
-// What settling an entry puts: nothing unless its transaction is committed.
+// What settling an entry puts: nothing unless its transaction is committed. The stamp is the tool's and not the entry's, and
+// so goes beside it.
 pub(crate) fn settlement(
     phase: Phase,
     stamp: Stamp,

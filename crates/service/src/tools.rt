@@ -32,7 +32,7 @@ pub enum Stand {
 }
 
 // What a transaction did with one item: the value it would leave, the `twrite` of the version
-// that it read from the store, and whether it wrote.
+// that it read from the store, and whether it wrote. A read has a value too, so `written` is a flag beside it.
 #[derive(Clone, Copy, Default)]
 pub struct Entry {
     pub item: Item,
@@ -42,7 +42,8 @@ pub struct Entry {
     pub stand: Stand,
 }
 
-// A tool: its last counter, the stamp of its closed transaction, and the entries in use.
+// A tool: its last counter, the stamp that it closed a transaction under last, and the entries in use. The stamp counts in
+// four phases of six, and stands once beside them.
 #[derive(Drop)]
 pub struct Tool {
     pub phase: Phase,

@@ -180,7 +180,7 @@ impl Tool {
         self.phase = Phase::Failed;
     }
 
-    // The entry at place k now has a token.
+    // The entry at place k now has a token. The place is handed on, since finding it again would walk the entries twice.
     pub(crate) fn hold(&mut self, k: usize)
         requires { k < length (seat_of self.old).entries }
         ensures { (i : ℕ) (s : State) (t : ℕ) → index_from 0 i (seat_of self.old).entries ≡ Some k → seat_of self.new ≡ next_seat s (seat_of self.old) (Certify t i) }

@@ -133,7 +133,7 @@ fn next_gain(gain: Value, limit: Value, measured: Value) -> Value {
     middle.min(limit)
 }
 
-// The transaction's reads and its write.
+// The transaction's reads and its write. Each step of the tuner says by itself how it takes its transaction and leaves it.
 fn adjust<S: Store>(
     held: &Open,
     service: &mut Service<S>,
