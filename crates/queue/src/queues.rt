@@ -12,8 +12,7 @@ pub struct Queue<T, const PLACES: usize> {
 }
 
 impl<T: Token, const PLACES: usize> Queue<T, PLACES> {
-    ghost use Rattle.arrayvec.specs.CapacityError.{error_element};
-    ghost use Rattle.queue.specs.Tokens.{insert, is_at, count, oldest, youngest};
+    ghost use Rattle.queue.specs.Tokens.{is_at, count, oldest, youngest};
     ghost use Rattle.queue.specs.Queues.{tokens};
 
     pub fn len(&self) -> usize
@@ -65,16 +64,6 @@ impl<T: Token, const PLACES: usize> Queue<T, PLACES> {
         self.tokens.iter().position(|token| stamp < token.stamp())
     }
 
-    // Puts the token behind those of an equal or smaller stamp; a full queue hands it back and stays as it is.
-    pub fn insert(&mut self, token: T) -> Result<(), CapacityError<T>>
-        ensures fits { is_ok result ≡ nat_lt (length (tokens self.old)) PLACES }
-        ensures after { tokens self.new ≡ insert T.tells PLACES token (tokens self.old) }
-        ensures returned { IfErr result (λ e. error_element e ≡ token) }
-    {
-        let at = self.place_of_later(token.stamp()).unwrap_or(self.len());
-        self.tokens.try_insert(at, token)
-    }
-
     // The place of the first token with that item and stamp.
     fn place_of(&self, item: Item, stamp: Stamp) -> Option<usize>
         ensures { result ≡ position (is_at T.tells item stamp) (tokens self.now) }
@@ -85,9 +74,10 @@ impl<T: Token, const PLACES: usize> Queue<T, PLACES> {
     }
 }
 
-// An unused place holds the default.
+// What makes a queue and fills its places: an unused place holds the default.
 impl<T: Token + Default, const PLACES: usize> Queue<T, PLACES> {
-    ghost use Rattle.queue.specs.Tokens.{is_at, has, remove};
+    ghost use Rattle.arrayvec.specs.CapacityError.{error_element};
+    ghost use Rattle.queue.specs.Tokens.{insert, is_at, has, remove};
     ghost use Rattle.queue.specs.Queues.{tokens};
 
     pub fn new() -> Self
@@ -96,6 +86,16 @@ impl<T: Token + Default, const PLACES: usize> Queue<T, PLACES> {
         Queue {
             tokens: ArrayVec::new(),
         }
+    }
+
+    // Puts the token behind those of an equal or smaller stamp; a full queue hands it back and stays as it is.
+    pub fn insert(&mut self, token: T) -> Result<(), CapacityError<T>>
+        ensures fits { is_ok result ≡ nat_lt (length (tokens self.old)) PLACES }
+        ensures after { tokens self.new ≡ insert T.tells PLACES token (tokens self.old) }
+        ensures returned { IfErr result (λ e. error_element e ≡ token) }
+    {
+        let at = self.place_of_later(token.stamp()).unwrap_or(self.len());
+        self.tokens.try_insert(at, token)
     }
 
     // Takes out the first token with that item and stamp.
