@@ -189,7 +189,7 @@ fn understood(heap: Global, text: &str) -> Result<Line, Unread> {
 }
 
 // Whether a line is there to be read: it is neither blank nor a comment.
-pub fn is_asking(text: &str) -> bool {
+pub(crate) fn is_asking(text: &str) -> bool {
     let text = text.trim_start_matches(' ');
     !text.is_empty() && !text.starts_with('#')
 }
