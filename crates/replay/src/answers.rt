@@ -55,10 +55,23 @@ fn seen<W: fmt::Write>(f: &mut fmt::Formatter<W>, look: &Look) -> fmt::Result {
 #[derive(Clone, Copy)]
 pub struct Hexadecimal<'a>(pub &'a [u8]);
 
+const DIGITS: [u8; 16] = *b"0123456789ABCDEF";
+// The bytes that are spelled at a time.
+const PIECE: usize = 32;
+
 impl fmt::Display for Hexadecimal<'_> {
+    // By pieces, since formatting each byte by itself takes several times as long.
     fn fmt<W: fmt::Write>(&self, f: &mut fmt::Formatter<W>) -> fmt::Result {
-        for byte in self.0 {
-            write!(f, "{byte:02X}")?;
+        for piece in self.0.chunks(PIECE) {
+            let mut text = [0; 2 * PIECE];
+            for (pair, byte) in text.as_chunks_mut::<2>().0.iter_mut().zip(piece) {
+                *pair = [
+                    DIGITS[usize::from(*byte >> 4)],
+                    DIGITS[usize::from(*byte & 15)],
+                ];
+            }
+            let digits = str::from_utf8(&text[..2 * piece.len()]).map_err(|_| fmt::Error)?;
+            f.write_str(digits)?;
         }
         Ok(())
     }

@@ -20,37 +20,31 @@ pub fn replay_all(rt: &HostRuntime, lines: &[String]) -> anyhow::Result<()> {
 fn open(rt: &HostRuntime, text: &str, opening: Opening, rest: &[String]) -> anyhow::Result<()> {
     match opening {
         Opening::Table(shape) => {
-            let mut buffer = shape.buffer;
-            let checked = Table::check(buffer.as_slice(), shape.count);
-            replay(
-                rt,
-                text,
-                checked,
-                Table::open(buffer.as_mut_slice(), shape.count),
-                rest,
-            )
+            let count = shape.count;
+            let mut buffer = shape.into_buffer()?;
+            let checked = Table::check(buffer.as_slice(), count);
+            let table = Table::open(buffer.as_mut_slice(), count);
+            replay(rt, text, checked, table, rest)
         }
         Opening::Log(shape) => {
-            let mut buffer = shape.buffer;
-            let checked = Log::check(buffer.as_slice(), shape.count);
-            replay(
-                rt,
-                text,
-                checked,
-                Log::open(buffer.as_mut_slice(), shape.count),
-                rest,
-            )
+            let count = shape.count;
+            let mut buffer = shape.into_buffer()?;
+            let checked = Log::check(buffer.as_slice(), count);
+            let log = Log::open(buffer.as_mut_slice(), count);
+            replay(rt, text, checked, log, rest)
         }
         // A table beside a log; the table's refusal is answered first.
         Opening::Pair(first, second) => {
-            let mut buffer = first.buffer;
-            let mut other = second.buffer;
-            let checked = Table::check(buffer.as_slice(), first.count).and_then(|()| Log::check(
+            let count = first.count;
+            let other_count = second.count;
+            let mut buffer = first.into_buffer()?;
+            let mut other = second.into_buffer()?;
+            let checked = Table::check(buffer.as_slice(), count).and_then(|()| Log::check(
                 other.as_slice(),
-                second.count,
+                other_count,
             ));
-            let table = Table::open(buffer.as_mut_slice(), first.count);
-            let log = Log::open(other.as_mut_slice(), second.count);
+            let table = Table::open(buffer.as_mut_slice(), count);
+            let log = Log::open(other.as_mut_slice(), other_count);
             replay(rt, text, checked, Pair::new(table, log), rest)
         }
     }

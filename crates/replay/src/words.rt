@@ -27,11 +27,23 @@ pub enum Request {
     Frame(Vec<u8>),
 }
 
-// So many items in a buffer.
+// So many items in a buffer of so many bytes, zero but for those at its front.
 #[derive(Drop)]
 pub struct Shape {
     pub count: usize,
-    pub buffer: Vec<u8>,
+    length: usize,
+    front: Vec<u8>,
+}
+
+impl Shape {
+    // Made when a store is opened on it, so that a line which opens none costs no more than its words.
+    pub fn into_buffer(self) -> Result<Vec<u8>, AllocError> {
+        let Shape {
+            length, mut front, ..
+        } = self;
+        front.resize(length, 0)?;
+        Ok(front)
+    }
 }
 
 // The longest buffer that the program makes. No store takes more than 65,536 bytes; a longer buffer is there to be refused.
@@ -126,17 +138,17 @@ fn spelled(name: &str, numbers: &[u64]) -> Result<Request, Unread> {
     }))
 }
 
-// A store of so many items in so many bytes, zero but for those at its front, if the program makes such a buffer.
-fn shaped(count: u64, length: u64, mut front: Vec<u8>) -> Result<Shape, Unread> {
+// A store of so many items in so many bytes, if the program makes such a buffer.
+fn shaped(count: u64, length: u64, front: Vec<u8>) -> Result<Shape, Unread> {
     let count = usize::try_from(count)?;
     let length = usize::try_from(length)?;
     if front.len() > length || length > MOST_BYTES {
         return Err(Unread::NotUnderstood);
     }
-    front.resize(length, 0)?;
     Ok(Shape {
         count,
-        buffer: front,
+        length,
+        front,
     })
 }
 
