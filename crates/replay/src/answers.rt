@@ -70,7 +70,10 @@ impl fmt::Display for Hexadecimal<'_> {
                     DIGITS[usize::from(*byte & 15)],
                 ];
             }
-            let digits = str::from_utf8(&text[..2 * piece.len()]).map_err(|_| fmt::Error)?;
+            let digits = text
+                .get(..2 * piece.len())
+                .and_then(|digits| str::from_utf8(digits).ok())
+                .ok_or(fmt::Error)?;
             f.write_str(digits)?;
         }
         Ok(())

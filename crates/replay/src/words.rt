@@ -39,7 +39,9 @@ impl Shape {
     // Made when a store is opened on it, so that a line which opens none costs no more than its words.
     pub fn into_buffer(self) -> Result<Vec<u8>, AllocError> {
         let Shape {
-            length, mut front, ..
+            length,
+            mut front,
+            ..
         } = self;
         front.resize(length, 0)?;
         Ok(front)
