@@ -129,25 +129,37 @@ pub fn write_request(request: Request, buffer: &mut [u8]) -> Result<usize, Fault
 fn read_call(tool: u8, number: u8, fields: &mut Fields) -> Result<Call, Fault>
     ensures { Reads (taken_call tool number) fields.old.rest.now result fields.new.rest.now }
 {
-    let mut request = Request {
+    let call = Call::try_from(Request {
         tool,
         call: number,
         item: 0,
         value: 0,
         tick: 0,
-    };
-    match Call::try_from(request)? {
-        Call::Read { .. } | Call::Certify { .. } | Call::Settle { .. } => {
-            request.item = fields.next(Kind::Item)? as Item;
-        }
-        Call::Write { .. } => {
-            request.item = fields.next(Kind::Item)? as Item;
-            request.value = fields.next(Kind::Value)? as Value;
-        }
-        Call::Close { .. } => request.tick = fields.next(Kind::Tick)?,
-        Call::Begin { .. } | Call::Commit { .. } | Call::Abort { .. } => {}
-    }
-    Call::try_from(request)
+    })?;
+    Ok(match call {
+        Call::Read { .. } => Call::Read {
+            tool,
+            item: fields.next(Kind::Item)? as Item,
+        },
+        Call::Write { .. } => Call::Write {
+            tool,
+            item: fields.next(Kind::Item)? as Item,
+            value: fields.next(Kind::Value)? as Value,
+        },
+        Call::Close { .. } => Call::Close {
+            tool,
+            tick: fields.next(Kind::Tick)?,
+        },
+        Call::Certify { .. } => Call::Certify {
+            tool,
+            item: fields.next(Kind::Item)? as Item,
+        },
+        Call::Settle { .. } => Call::Settle {
+            tool,
+            item: fields.next(Kind::Item)? as Item,
+        },
+        Call::Begin { .. } | Call::Commit { .. } | Call::Abort { .. } => call,
+    })
 }
 
 // The call that a frame asks for.
