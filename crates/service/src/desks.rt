@@ -1,8 +1,8 @@
 // What a service keeps beside its store: the tools and the two queues.
 use crate::calls::Answer;
 use crate::tokens::{ReadToken, WriteToken};
-use crate::tools::{PLACES, TOOLS, Tool};
-use queue::Queue;
+use crate::tools::{TOOLS, Tool};
+use queue::{PLACES, Queue};
 use store::{Item, Version};
 
 #[derive(Drop)]

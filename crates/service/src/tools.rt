@@ -6,8 +6,6 @@ use store::{Item, Stamp, Value};
 pub const TOOLS: usize = 16;
 // The items that one transaction may use.
 pub const ENTRIES: usize = 8;
-// The tokens that a queue may hold: one for each entry of each tool.
-pub const PLACES: usize = TOOLS * ENTRIES;
 // The largest counter that a stamp may have, and the first tick that is too large.
 pub const LAST_COUNTER: u64 = 1 << 40;
 

@@ -1,4 +1,4 @@
-use Rattle.std.proofs.Common.{◌≡◌, [], Some, Err, sym, refl, ap, ◌∙◌, arith}
+use Rattle.std.proofs.Common.{◌≡◌, [], set, Some, Err, sym, refl, ap, ◌∙◌, arith}
 use Rattle.service.specs.declared.calls.Call.TheVariants.{Certify}
 use Rattle.service.specs.declared.tools.Tool.{Tool}
 use Rattle.service.specs.Entries.{index_from}
@@ -40,7 +40,7 @@ returns-clause-acts c vs f =
     let its = rw seen at c.find.ensures.own in
     let stamp = ap (λ (x : Seat). x.stamp) (own_seat vs d t c.index.result z c.index.ensures (omega arith)) in
     certify_honoured (state vs d) t i c.in_ok-k.entry present _ stamp (sym c.if-is_held.ensures) (judged_ok _ c.in_default.field-0 (rw its at (c.in_default.ensures vs (rw its f))))
-    ∙ settles vs _ _ c.plain.result _ c.plain.ensures.told c.plain.ensures.same
+    ∙ settles vs _ (record { tools = set m.tools c.index-2.result c.hold.new.self; reads = m.reads; writes = m.writes }) c.plain.result _ c.plain.ensures.told c.plain.ensures.same
     (moved vs vs d m (Certify t i) c.index-2.result c.index-self-index-2.result c.hold.new.self c.index-2.ensures (omega arith) c.enqueue.ensures.tools
     (c.hold.ensures i (state vs d) t
     (ap (λ (x : Tool). index_from 0 i (seat_of x).entries) (same_tool d m c.index-2.result c.index.result c.index-self-index-2.result z (c.index-2.ensures ∙ sym c.index.ensures) (omega arith) c.enqueue.ensures.tools)
