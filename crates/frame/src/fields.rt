@@ -91,7 +91,8 @@ pub(crate) struct Fields<'a> {
 
 impl Fields<'_> {
     // The number in the field of that kind. It fits the type that is as wide, so callers cast it; a trait of the integers
-    // in place of the cast would say each width a second time.
+    // in place of the cast would say each width a second time. Inlined, since each caller knows the kind.
+    #[inline(always)]
     pub(crate) fn next(&mut self, kind: Kind) -> Result<u64, Fault>
         ensures takes { Reads (taken kind) self.old.rest.now result self.new.rest.now }
         ensures bound { IfOk result (λ n. n < 256 ^ width_of kind) }
