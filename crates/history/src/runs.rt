@@ -1,6 +1,7 @@
 // Lists of calls, made on a service one after the other.
 ghost use Rattle.std.specs.Prelude.{◌≡◌, min, List, [], length, drop};
 ghost use Rattle.store.specs.declared.Version.{Version};
+ghost use Rattle.service.specs.Service.{Does};
 ghost use Rattle.service.specs.Services.{state_of};
 ghost use Rattle.history.specs.History.{History};
 ghost use Rattle.history.specs.Runs.{Run, Runs, onward};
@@ -10,6 +11,13 @@ use store::Store;
 
 // What a call answered.
 pub type Outcome = Result<Answer, Refusal>;
+
+// Makes one call and writes its answer down.
+fn make<S: Store>(service: &mut Service<S>, call: Call, answer: &mut Outcome)
+    ensures { Does (state_of S.versions service.old) call answer.new (state_of S.versions service.new) }
+{
+    *answer = service.call(call);
+}
 
 // Makes the calls in their order and writes down their answers, as many as there are places for. Whatever run from
 // start led to the service, it goes on as a run, and so it keeps the law.
@@ -21,9 +29,16 @@ pub fn resume<S: Store>(service: &mut Service<S>, calls: &[Call], answers: &mut 
     let count = calls.len().min(answers.len());
     // By index: with a zipped `iter_mut` the proof, as tried, does not close, since it knows nothing of what is written.
     for i in 0..count {
-        answers[i] = service.call(calls[i]);
+        make(service, calls[i], &mut answers[i]);
     }
     count
+}
+
+// A service that has served no call yet.
+fn begin<S: Store>(store: S) -> Service<S>
+    ensures { Run (S.versions store) [] (state_of S.versions result) }
+{
+    Service::start(store)
 }
 
 // The same from start on.
@@ -31,7 +46,7 @@ pub fn run<S: Store>(store: S, calls: &[Call], answers: &mut [Outcome]) -> Servi
     ensures runs { Runs (S.versions store) (onward calls.now answers.new []) (state_of S.versions result) }
     ensures rest { drop (length calls.now) answers.new ≡ drop (length calls.now) answers.old }
 {
-    let mut service = Service::start(store);
+    let mut service = begin(store);
     let _ = resume(&mut service, calls, answers);
     service
 }

@@ -1,5 +1,5 @@
 // What the desk does with each call. It sees of the store the one version that the call names.
-ghost use Rattle.std.specs.Prelude.{◌≡◌, ◌/◌, ◌<◌, true, List, length, None};
+ghost use Rattle.std.specs.Prelude.{◌≡◌, ◌/◌, ◌<◌, true, List, map, length, replicate, None};
 ghost use Rattle.store.specs.declared.Version.{Version as Stored};
 ghost use Rattle.service.specs.declared.calls.Call.TheVariants.{Begin, Read, Write, Close, Certify, Commit, Abort, Settle};
 ghost use Rattle.std.specs.Option.{option_map};
@@ -8,8 +8,8 @@ ghost use Rattle.queue.specs.Tokens.{ascending};
 ghost use Rattle.queue.specs.Queues.{tokens};
 ghost use Rattle.service.specs.Refusals.{refusal};
 ghost use Rattle.service.specs.Certification.{certification, judged};
-ghost use Rattle.service.specs.Service.{start, largest, read_tells, write_tells, claim, meets, with_read, with_write, without_read, without_write};
-ghost use Rattle.service.specs.Desks.{state, told, change_of, Acts, Serves, Quiet, Lawful};
+ghost use Rattle.service.specs.Service.{fresh, start, largest, read_tells, write_tells, claim, meets, with_read, with_write, without_read, without_write};
+ghost use Rattle.service.specs.Desks.{seat_of, state, told, change_of, Acts, Serves, Quiet, Lawful};
 
 use crate::calls::{Answer, Call};
 use crate::certification;
@@ -19,7 +19,7 @@ use crate::refusals::Refusal;
 use crate::settlements::settlement;
 use crate::tokens::Certified;
 use crate::tool_numbers::ToolNumber;
-use crate::tools::{Entry, Phase, Tool};
+use crate::tools::{Entry, Phase, TOOLS, Tool};
 use queue::{Queue, Token};
 use std::array;
 use store::{Item, Stamp, Value, Version};
@@ -41,13 +41,20 @@ fn stamp_of<T: Token + Drop>(token: Option<T>) -> Option<Stamp>
     token.map(|token| token.stamp())
 }
 
+// Each tool idle, its counters given out up to `last`.
+fn idle_tools(last: u64) -> [Tool; TOOLS]
+    ensures { map seat_of result ≡ replicate 16 (fresh last) }
+{
+    array::from_fn(|_| Tool::idle(last))
+}
+
 impl Desk {
     // All tools idle, their counters given out up to `last`, and no tokens.
     pub(crate) fn new(last: u64) -> Desk
         ensures { (vs : List Stored) → largest vs / 16 ≡ last → state vs result ≡ start vs }
     {
         Desk {
-            tools: array::from_fn(|_| Tool::idle(last)),
+            tools: idle_tools(last),
             reads: Queue::new(),
             writes: Queue::new(),
         }

@@ -1,5 +1,5 @@
 -- What holds of the records in a buffer: of each, after one more, and after compaction. Assumes nothing.
-use Rattle.std.proofs.Common.{◌≡◌, ℕ, ◌+◌, ◌-◌, ◌*◌, ◌<◌, ◌≤◌, true, cond, not, eqb, ltb, List, ◌++◌, length, get_or, take, set, replicate, Some, None, Option, ap, ◌∙◌, inl, ⊎_elim, arith}
+use Rattle.std.proofs.Common.{◌≡◌, ℕ, ◌+◌, ◌-◌, ◌*◌, ◌<◌, ◌≤◌, true, cond, not, eqb, ltb, List, ◌++◌, length, get_or, take, set, replicate, Some, None, Option, sym, ap, ◌∙◌, inl, ⊎_elim, arith}
 use Rattle.std.specs.List.{list_all, flat_map}
 use Rattle.std.proofs.lemmas.List.{take_at}
 use Rattle.std.proofs.lemmas.Bool.{and_parts, and_from, eqb-true, eq-eqb, ne_eqb, ltb-true, lt-ltb, cases_eq}
@@ -112,3 +112,24 @@ sifted old bytes after n place end p done within fits sounds cleared =
           ∙ all_kept (sound 256) (firsts old n) sounds;
       fits = omega (arith, ap length is, length_image rs (length old) whole (omega arith));
     }
+
+-- the same, each part as the function that compacts states it
+pub sifted_sounds :
+    (old bytes after : List ℕ) (n place end : ℕ)
+    → Pass old bytes n place end → n ≤ place → place ≤ n → 25 * n ≤ length old
+    → list_all (sound 256) (firsts old n) ≡ true
+    → after ≡ take (25 * end) bytes ++ replicate (length bytes - 25 * end) 0
+    → list_all (sound 256) (firsts after end) ≡ true
+sifted_sounds old bytes after n place end p done within fits sounds cleared = (sifted old bytes after n place end p done within fits sounds cleared).sounds
+
+pub sifted_front :
+    (old bytes : List ℕ) (n place end : ℕ)
+    → Pass old bytes n place end → n ≤ place
+    → flat_map (λ r. r) (kept (firsts old n)) ≡ take (25 * end) bytes
+sifted_front old bytes n place end p done = sym (pass_all old bytes n place end p done).front
+
+pub sifted_used :
+    (old bytes : List ℕ) (n place end : ℕ)
+    → Pass old bytes n place end → n ≤ place
+    → length (kept (firsts old n)) ≡ end
+sifted_used old bytes n place end p done = sym (pass_all old bytes n place end p done).count

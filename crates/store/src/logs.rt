@@ -75,10 +75,12 @@ impl Store for Log<'_> {
 
     ghost few = { λ l. few_made (version_of_item l.records.area.bytes.now) l.count l.few };
 
+    #[tactic(auto, using(crate::proofs::Made::length_made))]
     fn count(&self) -> u16 {
         self.count
     }
 
+    #[tactic(auto, using(crate::proofs::Made::nth_made, crate::proofs::Made::nth_made_past))]
     fn get(&self, item: Item) -> Option<Version> {
         if item >= self.count {
             return None;
@@ -87,6 +89,7 @@ impl Store for Log<'_> {
     }
 
     // Beside the versions: what every byte of the buffer is, and that the count stays, which no type can say of a change.
+    #[tactic(auto, using(crate::proofs::Made::set_made_past))]
     fn put(&mut self, item: Item, version: Version)
         ensures versions { log self.new.records.area.bytes.now self.new.count ≡ slice_set (log self.old.records.area.bytes.now self.old.count) item version }
         ensures bytes { self.new.records.area.bytes.now ≡ after_put self.old.records.area.bytes.now self.old.count item version }

@@ -66,6 +66,7 @@ impl<A: Store, B: Store> Store for Pair<A, B> {
 
     ghost few = { λ p. few_pair (A.Store.versions p.first) (B.Store.versions p.second) };
 
+    #[tactic(auto, using(crate::proofs::PairLaws::length_pair))]
     fn count(&self) -> u16 {
         (self.first.count() + self.second.count()).min(MOST_ITEMS as u16)
     }

@@ -116,13 +116,14 @@ impl Area<'_> {
         &places(self.bytes)[place]
     }
 
-    // The place of each item's last record, of the first `used`.
+    // The place of each item's last record, of the first `used`. Who keeps it keeps what it asks too, so that is told again.
     fn index(&self, used: usize) -> [Option<u16>; MOST_ITEMS]
         requires fits { record_size * used ≤ length self.now.bytes.now }
         requires short { used ≤ 65536 }
         requires sound { list_all (sound 256) (map (record_at self.now.bytes.now) (range_with_len 0 used)) ≡ true }
         ensures places { (item : ℕ) → item < 256 → slice_index_or result item None ≡ last_place self.now.bytes.now used item }
         ensures wide { length result ≡ 256 }
+        ensures sound { list_all (sound 256) (map (record_at self.now.bytes.now) (range_with_len 0 used)) ≡ true }
     {
         let mut latest = [None; MOST_ITEMS];
         for (place, record) in places(self.bytes)[..used].iter().enumerate() {
@@ -204,6 +205,7 @@ impl<'a> Records<'a> {
     }
 
     // Keeps the last record of each item, in their order, and zeroes what comes after them.
+    #[tactic(auto, using(crate::proofs::RecordLaws::sifted_sounds, crate::proofs::RecordLaws::sifted_front, crate::proofs::RecordLaws::sifted_used))]
     pub(crate) fn compact(&mut self)
         ensures bytes { self.new.area.bytes.now ≡ image (kept (map (record_at self.old.area.bytes.now) (range_with_len 0 self.old.used))) (length self.old.area.bytes.now) }
         ensures used { self.new.used ≡ length (kept (map (record_at self.old.area.bytes.now) (range_with_len 0 self.old.used))) }

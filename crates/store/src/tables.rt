@@ -56,10 +56,12 @@ impl Store for Table<'_> {
 
     ghost few = { λ t. few_made (version_at t.area.bytes.now) t.count t.few };
 
+    #[tactic(auto, using(crate::proofs::Made::length_made))]
     fn count(&self) -> u16 {
         self.count
     }
 
+    #[tactic(auto, using(crate::proofs::TableLaws::table_get, crate::proofs::Made::nth_made_past))]
     fn get(&self, item: Item) -> Option<Version> {
         if item >= self.count {
             return None;
@@ -69,6 +71,7 @@ impl Store for Table<'_> {
     }
 
     // Beside the versions: what every byte of the buffer is, and that the count stays, which no type can say of a change.
+    #[tactic(auto, using(crate::proofs::Made::set_made_past))]
     fn put(&mut self, item: Item, version: Version)
         ensures versions { table self.new.area.bytes.now self.new.count ≡ slice_set (table self.old.area.bytes.now self.old.count) item version }
         ensures bytes { self.new.area.bytes.now ≡ after_put self.old.area.bytes.now self.old.count item version }

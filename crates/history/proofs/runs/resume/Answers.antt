@@ -8,10 +8,10 @@ use Rattle.history.proofs.runs.resume.Goals as goal
 
 pub loop-i-preserved : goal.loop-i-preserved
 loop-i-preserved g c = (
-  rest_stays c.loop-i.answers c.args.answers.now c.loop-i.i c.call.result c.loop-i.invariant.0,
+  rest_stays c.loop-i.answers c.args.answers.now c.loop-i.i c.make.new.answer c.loop-i.invariant.0,
   λ vs h r. one_more c.args.calls.now c.loop-i.answers c.loop-i.i (let n = c.min-count.ensures in omega arith) (let n = c.min-count.ensures in omega arith)
-      vs h (state_of g.S.Store.versions c.loop-i.service) (state_of g.S.Store.versions c.call.new.self) c.call.result _
-      (c.loop-i.invariant.1 vs h r) c.call.ensures.does,
+      vs h (state_of g.S.Store.versions c.loop-i.service) (state_of g.S.Store.versions c.make.new.service) c.make.new.answer _
+      (c.loop-i.invariant.1 vs h r) c.make.ensures,
 )
 
 pub returns-clause-runs : goal.returns-clause-runs

@@ -2,7 +2,6 @@ use Rattle.std.proofs.Common.{set, sym, ap, ◌∙◌, arith}
 use Rattle.std.proofs.lemmas.Bool.{cond-true, lt-ltb}
 use Rattle.store.specs.Log.{appended}
 use Rattle.store.proofs.LogLaws.{Grown, good_from, from_good, grows}
-use Rattle.store.proofs.Made.{set_made_past}
 use Rattle.store.proofs.logs.LogStore.put.Goals as goal
 
 -- what the new record leaves
@@ -26,6 +25,3 @@ returns-then-item-self-clause-bytes c =
     (grown c.before).is
     ∙ ap (appended c.args.item c.args.version) c.make_room.ensures.bytes
     ∙ sym (cond-true _ _ _ (lt-ltb _ _ c.if-item-self.true))
-
-pub returns-else-item-self-clause-versions : goal.returns-else-item-self-clause-versions
-returns-else-item-self-clause-versions c = sym (set_made_past _ _ _ _ c.if-item-self.false)

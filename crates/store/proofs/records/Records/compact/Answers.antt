@@ -2,7 +2,7 @@ use Rattle.std.proofs.Common.{◌≡◌, ℕ, ◌+◌, ◌*◌, List, get_or, No
 use Rattle.store.specs.Bytes.{part, over}
 use Rattle.store.specs.Log.{last_place, item_of, record_at}
 use Rattle.store.proofs.Compacts.{moved_is, pass_at, pass_drop, pass_keep}
-use Rattle.store.proofs.RecordLaws.{Sifted, item_below, sifted}
+use Rattle.store.proofs.RecordLaws.{item_below}
 use Rattle.store.proofs.records.Records.compact.Goals as goal
 use Rattle.store.proofs.records.Records.compact.Goals.{then-names, else-names}
 
@@ -44,23 +44,3 @@ loop-place-preserved c =
           (ap (λ a. a.bytes.now) w.area-is)
           w.end-is
     ]
-
--- what the pass over the records leaves, once the rest is zeroed
-left :
-    (c : goal.After-index-arg-1)
-    → Sifted c.args.self.now.area.bytes.now c.clear.new.self.bytes.now c.args.self.now.used c.loop-place.end
-left c =
-    sifted c.args.self.now.area.bytes.now c.loop-place.area.bytes.now _ c.args.self.now.used c.loop-place.place c.loop-place.end
-    c.loop-place.invariant c.loop-place-test.false c.loop-place.auto.place-end c.args.self.now.fits c.args.self.now.sound c.clear.ensures
-
-pub index-self-requires-clause-sound : goal.index-self-requires-clause-sound
-index-self-requires-clause-sound c = (left c).sounds
-
-pub invariant_of-self-clause-sound : goal.invariant_of-self-clause-sound
-invariant_of-self-clause-sound c = (left c.before).sounds
-
-pub returns-clause-bytes : goal.returns-clause-bytes
-returns-clause-bytes c = (left c.before.before).bytes
-
-pub returns-clause-used : goal.returns-clause-used
-returns-clause-used c = (left c.before.before).used

@@ -1,7 +1,6 @@
 use Rattle.std.proofs.Common.{◌*◌, sym, ap, ◌∙◌, arith}
 use Rattle.std.proofs.lemmas.Bool.{cond-true, lt-ltb}
 use Rattle.store.specs.Table.{table}
-use Rattle.store.proofs.Made.{set_made_past}
 use Rattle.store.proofs.Places.{over_new}
 use Rattle.store.proofs.TableLaws.{table_put}
 use Rattle.store.proofs.tables.TableStore.put.Goals as goal
@@ -16,6 +15,3 @@ pub returns-then-item-self-clause-bytes : goal.returns-then-item-self-clause-byt
 returns-then-item-self-clause-bytes c =
     over_new (20 * c.args.item) c.args.self.now.area.bytes.now c.write.ensures c.pack.ensures
     ∙ sym (cond-true _ _ _ (lt-ltb _ _ c.if-item-self.true))
-
-pub returns-else-item-self-clause-versions : goal.returns-else-item-self-clause-versions
-returns-else-item-self-clause-versions c = sym (set_made_past _ _ _ _ c.if-item-self.false)
