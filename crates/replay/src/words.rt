@@ -1,4 +1,6 @@
 // A line of the input, and what it asks for.
+ghost use Rattle.std.specs.Prelude.{◌≡◌, ◌-◌, ◌++◌, take, replicate, vec_len, IfOk};
+
 use service::Call;
 use std::alloc::{AllocError, Global};
 use std::num::{ParseIntError, TryFromIntError};
@@ -37,7 +39,9 @@ pub struct Shape {
 
 impl Shape {
     // Made when a store is opened on it, so that a line which opens none costs no more than its words.
-    pub fn into_buffer(self) -> Result<Vec<u8>, AllocError> {
+    pub fn into_buffer(self) -> Result<Vec<u8>, AllocError>
+        ensures { IfOk result (λ buffer. buffer.items ≡ take self.length self.front.items ++ replicate (self.length - vec_len self.front) 0) }
+    {
         let Shape {
             length,
             mut front,
